@@ -1,0 +1,6 @@
+use native.Mathlib.Omega.{arith}
+use Rattle.algebra.proofs.Same.{same-count}
+use Rattle.algebra.proofs.count.CountAlgebra.sum.Needs as need
+
+pub returns : need.returns
+returns c = same-count _ _ (omega arith)

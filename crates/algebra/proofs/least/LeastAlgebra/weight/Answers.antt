@@ -1,0 +1,6 @@
+use native.Mathlib.Omega.{arith}
+use Rattle.algebra.proofs.Same.{same-least}
+use Rattle.algebra.proofs.least.LeastAlgebra.weight.Needs as need
+
+pub returns : need.returns
+returns c = same-least _ _ (omega arith)

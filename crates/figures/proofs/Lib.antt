@@ -1,0 +1,9 @@
+pub mod Folds
+pub mod Members
+pub mod Assigned
+pub mod Carried
+pub mod Silencing
+pub mod Names
+pub mod Settled
+pub mod Checked
+pub mod Viewed

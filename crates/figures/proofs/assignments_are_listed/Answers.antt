@@ -1,0 +1,5 @@
+use Rattle.figures.proofs.Assigned.{listed}
+use Rattle.figures.proofs.assignments_are_listed.Needs as need
+
+pub returns : need.returns
+returns c = listed

@@ -1,0 +1,5 @@
+use Rattle.figures.proofs.Checked.{rows-hold}
+use Rattle.figures.proofs.check_families_hold.Needs as need
+
+pub returns : need.returns
+returns c = rows-hold

@@ -1,0 +1,5 @@
+use Rattle.figures.proofs.Settled.{parts-settled}
+use Rattle.figures.proofs.parts_are_settled.Needs as need
+
+pub returns : need.returns
+returns c = parts-settled

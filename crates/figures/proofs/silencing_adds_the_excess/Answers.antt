@@ -1,0 +1,5 @@
+use Rattle.figures.proofs.Silencing.{excess-added}
+use Rattle.figures.proofs.silencing_adds_the_excess.Needs as need
+
+pub returns : need.returns
+returns g c = excess-added (g .V·Algebra .operations) (g .V·Algebra·met .laws)

@@ -1,0 +1,39 @@
+// The rules of the founder-allele sums, and the theorems about them. Each function here states one theorem by its contract.
+ghost use Rattle.figures.specs.CheckFamilies.{Rows-hold};
+ghost use Rattle.figures.specs.Statements.{Listed, Figures-carried, Excess-added, Parts-settled};
+use algebra::Algebra;
+
+// The assignments listed are exactly the lists of n alleles below k, and none is listed twice.
+pub fn assignments_are_listed() -> u8
+    ensures { λ _. ⌜ Listed ⌝ }
+{
+    0
+}
+
+// A map that carries one algebra to another carries the figure of every locus.
+pub fn figures_are_carried<V: Algebra, W: Algebra>() -> u8
+    ensures { λ _. ⌜ Figures-carried (V·Algebra .operations) (W·Algebra .operations) ⌝ }
+{
+    0
+}
+
+// Silencing persons adds to a figure exactly the excess.
+pub fn silencing_adds_the_excess<V: Algebra>() -> u8
+    ensures { λ _. ⌜ Excess-added (V·Algebra .operations) ⌝ }
+{
+    0
+}
+
+// The slots of a locus fall into one number of components.
+pub fn parts_are_settled() -> u8
+    ensures { λ _. ⌜ Parts-settled ⌝ }
+{
+    0
+}
+
+// The figures of the check families are those of the rules.
+pub fn check_families_hold() -> u8
+    ensures { λ _. ⌜ Rows-hold ⌝ }
+{
+    0
+}

@@ -1,0 +1,5 @@
+pub mod Meioses
+pub mod Faults
+pub mod Families
+pub mod Building
+pub mod Slots

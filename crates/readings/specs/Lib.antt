@@ -1,0 +1,5 @@
+pub mod Model
+pub mod Tables
+pub mod Bytes
+pub mod CodominantRules
+pub mod DominantRules
