@@ -1,15 +1,22 @@
 -- Folds under an operation that may be regrouped and exchanged.
 -- Assumes nothing.
 use mathlib.Core.Path.{_≡_, refl, sym, ap, ap₂, fun-ext, _∙_}
+use mathlib.Core.Logic.{_⊎_, inl, inr}
 use mathlib.Core.Bool.{Bool, true, false, cond}
 use mathlib.Core.List.{List, [], _∷_, _++_, map}
 use Rattle.std.specs.Joined.{joined}
 use Rattle.algebra.specs.Semiring.{Commutative}
-use Rattle.figures.specs.Lists.{fold, kept}
+use Rattle.figures.specs.Lists.{fold, kept, In}
+use Rattle.figures.proofs.Perms.{Perm, done, keep, swap, next}
 
 module _ {X V : Type 0} (unit : V) (op : V → V → V) where
   pub fold-cong : (xs : List X) (f g : X → V) → ((x : X) → f x ≡ g x) → fold unit op xs f ≡ fold unit op xs g
   fold-cong xs f g e = ap (fold unit op xs) (fun-ext e)
+
+-- only what stands in the list counts
+pub fold-cong-in : {X V : Type 0} (unit : V) (op : V → V → V) (xs : List X) (f g : X → V) → ((x : X) → In x xs → f x ≡ g x) → fold unit op xs f ≡ fold unit op xs g
+fold-cong-in unit op [] f g e = refl
+fold-cong-in unit op (x ∷ xs) f g e = ap₂ op (e x (inl refl)) (fold-cong-in unit op xs f g (λ y i. e y (inr i)))
 
 pub fold-map : {X Y V : Type 0} (unit : V) (op : V → V → V) (g : X → Y) (f : Y → V) (xs : List X) → fold unit op (map g xs) f ≡ fold unit op xs (λ x. f (g x))
 fold-map unit op g f [] = refl
@@ -52,3 +59,19 @@ module _ {V : Type 0} {unit : V} {op : V → V → V} (c : Commutative unit op) 
       one : (b : Bool) → fold unit op (cond b (x ∷ kept p xs) (kept p xs)) f ≡ op (cond b (f x) unit) (fold unit op (kept p xs) f)
       one true = refl
       one false = sym (c .neutral (fold unit op (kept p xs) f))
+
+  pub fold-unit : {X : Type 0} (xs : List X) → fold unit op xs (λ _. unit) ≡ unit
+  fold-unit [] = refl
+  fold-unit (x ∷ xs) = c .neutral (fold unit op xs (λ _. unit)) ∙ fold-unit xs
+
+  pub fold-swap : {X Y : Type 0} (xs : List X) (ys : List Y) (f : X → Y → V) → fold unit op xs (λ x. fold unit op ys (f x)) ≡ fold unit op ys (λ y. fold unit op xs (λ x. f x y))
+  fold-swap [] ys f = sym (fold-unit ys)
+  fold-swap (x ∷ xs) ys f =
+      ap (op (fold unit op ys (f x))) (fold-swap xs ys f) ∙ sym (fold-both ys (f x) (λ y. fold unit op xs (λ z. f z y)))
+
+  pub fold-perm : {X : Type 0} {xs ys : List X} (f : X → V) → Perm xs ys → fold unit op xs f ≡ fold unit op ys f
+  fold-perm f done = refl
+  fold-perm f (keep {x} p) = ap (op (f x)) (fold-perm f p)
+  fold-perm f (swap {x} {y} {xs}) =
+      sym (c .assoc (f x) (f y) (fold unit op xs f)) ∙ ap (λ t. op t (fold unit op xs f)) (c .comm (f x) (f y)) ∙ c .assoc (f y) (f x) (fold unit op xs f)
+  fold-perm f (next p q) = fold-perm f p ∙ fold-perm f q

@@ -1,5 +1,6 @@
-pub mod Folds
 pub mod Members
+pub mod Perms
+pub mod Folds
 pub mod Assigned
 pub mod Carried
 pub mod Silencing
@@ -7,3 +8,8 @@ pub mod Names
 pub mod Settled
 pub mod Checked
 pub mod Viewed
+pub mod SlotSums
+pub mod Placed
+pub mod Factored
+pub mod Searched
+pub mod AtMostTwo

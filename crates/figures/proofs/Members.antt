@@ -6,11 +6,13 @@ use mathlib.Core.Bool.{Bool, true, false, cond}
 use mathlib.Core.List.{List, [], _∷_, _++_, map}
 use Prim.Native.Nat.{ℕ, zero, suc, _+_, _≤_, _<_}
 use native.Mathlib.Omega.{arith}
+use lib.Dec.{eqb}
 use lib.ListN.{length}
 use Rattle.std.specs.Iters.{counting}
 use Rattle.std.specs.Joined.{joined}
-use Rattle.std.proofs.shelf.Tests.{both-ways, cases-lt}
-use Rattle.figures.specs.Lists.{kept, In, Once}
+use Rattle.std.proofs.shelf.Tests.{both-ways, cases-lt, false≢true, and-from, and-left, and-right, and-parts, or-cases, or-left, or-right, eqb-true, eq-eqb}
+use Rattle.figures.specs.Lists.{every, kept, In, Once}
+use Rattle.figures.specs.Graph.{has}
 
 module _ {X : Type 0} where
   pub in-left : (x : X) (xs ys : List X) → In x xs → In x (xs ++ ys)
@@ -120,18 +122,18 @@ once-counting a (suc n) = (λ i. let r = counting-in (a + 1) n a i in omega arit
 
 -- the list without one place of it
 module _ {X : Type 0} (y : X) where
-  pub without : (ys : List X) → In y ys → List X
+  unfoldable pub without : (ys : List X) → In y ys → List X
   without [] i = elim i [ ]
   without (z ∷ zs) (inl e) = zs
   without (z ∷ zs) (inr i) = z ∷ without zs i
 
-  length-without : (ys : List X) (i : In y ys) → length ys ≡ suc (length (without ys i))
+  pub length-without : (ys : List X) (i : In y ys) → length ys ≡ suc (length (without ys i))
   unfolding without
   length-without [] i = elim i [ ]
   length-without (z ∷ zs) (inl e) = refl
   length-without (z ∷ zs) (inr i) = ap suc (length-without zs i)
 
-  in-without : (x : X) (ys : List X) (i : In y ys) → In x ys → (x ≡ y) ⊎ In x (without ys i)
+  pub in-without : (x : X) (ys : List X) (i : In y ys) → In x ys → (x ≡ y) ⊎ In x (without ys i)
   unfolding without
   in-without x [] i j = elim i [ ]
   in-without x (z ∷ zs) (inl e) (inl q) = inl (q ∙ sym e)
@@ -142,6 +144,56 @@ module _ {X : Type 0} (y : X) where
       go : (x ≡ y) ⊎ In x (without zs i) → (x ≡ y) ⊎ In x (z ∷ without zs i)
       go (inl e) = inl e
       go (inr k) = inr (inr k)
+
+-- what is left of a list in which nothing stands twice is the rest of it
+module _ {X : Type 0} (y : X) where
+  pub in-whole : (x : X) (ys : List X) (i : In y ys) → In x (without y ys i) → In x ys
+  unfolding without
+  in-whole x [] i j = elim i [ ]
+  in-whole x (z ∷ zs) (inl e) j = inr j
+  in-whole x (z ∷ zs) (inr i) (inl q) = inl q
+  in-whole x (z ∷ zs) (inr i) (inr j) = inr (in-whole x zs i j)
+
+  pub not-left : (ys : List X) (i : In y ys) → Once ys → In y (without y ys i) → ⊥
+  unfolding without
+  not-left [] i o j = elim i [ ]
+  not-left (z ∷ zs) (inl e) o j = o .0 (subst (λ t. In t zs) e j)
+  not-left (z ∷ zs) (inr i) o (inl q) = o .0 (subst (λ t. In t zs) q i)
+  not-left (z ∷ zs) (inr i) o (inr j) = not-left zs i (o .1) j
+
+  pub once-without : (ys : List X) (i : In y ys) → Once ys → Once (without y ys i)
+  unfolding without
+  once-without [] i o = elim i [ ]
+  once-without (z ∷ zs) (inl e) o = o .1
+  once-without (z ∷ zs) (inr i) o = (λ j. o .0 (in-whole z zs i j), once-without zs i (o .1))
+
+module _ {X : Type 0} (f : X → Bool) where
+  pub every-from : (xs : List X) → ((x : X) → In x xs → f x ≡ true) → every f xs ≡ true
+  every-from [] h = refl
+  every-from (x ∷ xs) h = and-from (f x) (every f xs) (h x (inl refl)) (every-from xs (λ y i. h y (inr i)))
+
+  pub every-not : (x : X) (xs : List X) → In x xs → f x ≡ false → every f xs ≡ false
+  every-not x [] i e = elim i [ ]
+  every-not x (y ∷ xs) (inl q) e = and-left (f y) (every f xs) (ap f (sym q) ∙ e)
+  every-not x (y ∷ xs) (inr i) e = and-right (f y) (every f xs) (every-not x xs i e)
+
+  pub every-at : (x : X) (xs : List X) → every f xs ≡ true → In x xs → f x ≡ true
+  every-at x [] t i = elim i [ ]
+  every-at x (y ∷ xs) t (inl q) = ap f q ∙ and-parts (f y) (every f xs) t .0
+  every-at x (y ∷ xs) t (inr i) = every-at x xs (and-parts (f y) (every f xs) t .1) i
+
+pub has-in : (ss : List ℕ) (s : ℕ) → has ss s ≡ true → In s ss
+has-in [] s e = absurd (false≢true e)
+has-in (t ∷ ss) s e = go (λ h. has-in ss s h) (or-cases (eqb s t) (has ss s) e)
+  where
+    go : (has ss s ≡ true → In s ss) → (eqb s t ≡ true) ⊎ (has ss s ≡ true) → In s (t ∷ ss)
+    go ih (inl q) = inl (eqb-true s t q)
+    go ih (inr h) = inr (ih h)
+
+pub in-has : (ss : List ℕ) (s : ℕ) → In s ss → has ss s ≡ true
+in-has [] s i = elim i [ ]
+in-has (t ∷ ss) s (inl q) = or-left (eqb s t) (has ss s) (eq-eqb s t q)
+in-has (t ∷ ss) s (inr i) = or-right (eqb s t) (has ss s) (in-has ss s i)
 
 -- where each element of one list has a partner in another, and no two share one, the first is not longer
 pub no-more : {X Y : Type 0} (R : X → Y → Type 0) (xs : List X) (ys : List Y) → ((x z : X) (y : Y) → In x xs → In z xs → R x y → R z y → x ≡ z) → Once xs → ((x : X) → In x xs → (y : Y) × In y ys × R x y) → length xs ≤ length ys

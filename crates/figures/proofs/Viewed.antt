@@ -1,32 +1,20 @@
 -- Whether an assignment fits all readings, person by person.
 -- Assumes nothing.
-use mathlib.Core.Path.{_≡_, refl, sym, ap, _∙_}
-use mathlib.Core.Logic.{_⊎_, inl, inr}
+use mathlib.Core.Path.{_≡_, _∙_}
 use mathlib.Core.Bool.{Bool, true, false, _&&_}
-use mathlib.Core.List.{List, [], _∷_}
+use mathlib.Core.List.{List}
 use Prim.Native.Nat.{ℕ, _<_}
 use native.Mathlib.Omega.{arith}
 use lib.ListN.{length}
 use Rattle.std.specs.Iters.{counting}
-use Rattle.std.proofs.shelf.Tests.{and-from, and-left, and-right}
 use Rattle.pedigree.specs.Slots.{slotsAt}
 use Rattle.readings.specs.declared.class.Class.{Class}
-use Rattle.figures.specs.Lists.{every, In}
+use Rattle.figures.specs.Lists.{every}
 use Rattle.figures.specs.Assignments.{allele}
 use Rattle.figures.specs.Figure.{fits, fits-all}
 use Rattle.figures.specs.View.{reading-of, readings-of}
 use Rattle.figures.proofs.Folds.{fold-map}
-use Rattle.figures.proofs.Members.{in-counting, counting-in}
-
-module _ {X : Type 0} (f : X → Bool) where
-  pub every-from : (xs : List X) → ((x : X) → In x xs → f x ≡ true) → every f xs ≡ true
-  every-from [] h = refl
-  every-from (x ∷ xs) h = and-from (f x) (every f xs) (h x (inl refl)) (every-from xs (λ y i. h y (inr i)))
-
-  pub every-not : (x : X) (xs : List X) → In x xs → f x ≡ false → every f xs ≡ false
-  every-not x [] i e = elim i [ ]
-  every-not x (y ∷ xs) (inl q) e = and-left (f y) (every f xs) (ap f (sym q) ∙ e)
-  every-not x (y ∷ xs) (inr i) e = and-right (f y) (every f xs) (every-not x xs i e)
+use Rattle.figures.proofs.Members.{in-counting, counting-in, every-from, every-not}
 
 module _ (slots : List (ℕ × ℕ)) (class : ℕ → Class) (fit : ℕ → ℕ → ℕ → Bool) (ρ : List ℕ) where
   -- the reading of person p fits

@@ -6,13 +6,14 @@
 -- Assumes nothing.
 use mathlib.Core.Path.{_≡_}
 use mathlib.Core.Logic.{_↔_}
-use mathlib.Core.Bool.{Bool, cond, _&&_}
+use mathlib.Core.Bool.{Bool, true, cond, _&&_}
 use mathlib.Core.List.{List, [], _∷_, map}
-use Prim.Native.Nat.{ℕ, _^_, _<_}
+use Prim.Native.Nat.{ℕ, min, max, _^_, _<_}
 use lib.Dec.{eqb}
 use lib.ListN.{length}
+use Rattle.std.specs.Joined.{joined}
 use Rattle.algebra.specs.Semiring.{Ops}
-use Rattle.readings.specs.declared.class.Class.the-variants.{Several}
+use Rattle.readings.specs.declared.class.Class.the-variants.{Silent, Named, Several}
 use Rattle.figures.specs.Lists.{fold, every, some-passes, kept, In, Once}
 use Rattle.figures.specs.Assignments.{assignments}
 use Rattle.figures.specs.Locus.{Locus, Reading, loud}
@@ -54,6 +55,18 @@ pub record Wide (L : Locus) : Type 0 where
   pub several : reading .class ≡ Several
   pub inside : Chain (links (L .readings)) slot (reading .ends .0)
   pub many : 65536 < L .alleles ^ length slots
+
+-- what the readings of a locus keep: their slots are slots of the locus, a silent reading fits every two alleles, and a named one its pair alone
+pub record Sound (L : Locus) : Type 0 where
+  pub within : (r : Reading) → In r (L .readings) → (r .ends .0 < L .slots) × (r .ends .1 < L .slots)
+  pub silent : (r : Reading) (a b : ℕ) → In r (L .readings) → r .class ≡ Silent → r .fits a b ≡ true
+  pub named : (r : Reading) (a b x y : ℕ) → In r (L .readings) → r .class ≡ Named a b → r .fits x y ≡ (eqb (min x y) a && eqb (max x y) b)
+
+-- the components of a locus: each list is the component of one of its slots, and every slot stands in exactly one of them
+pub record Components (L : Locus) (cs : List (List ℕ)) : Type 0 where
+  pub each : (c : List ℕ) → In c cs → (s : ℕ) × In s c × Component (L .slots) (links (L .readings)) s c
+  pub once : Once (joined (λ c. c) cs)
+  pub all : (s : ℕ) → s < L .slots → In s (joined (λ c. c) cs)
 
 -- the slot stands in the list
 abbrev pub has : List ℕ → ℕ → Bool

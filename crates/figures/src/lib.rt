@@ -1,6 +1,6 @@
 // The rules of the founder-allele sums, and the theorems about them. Each function here states one theorem by its contract.
 ghost use Rattle.figures.specs.CheckFamilies.{Rows-hold};
-ghost use Rattle.figures.specs.Statements.{Listed, Figures-carried, Excess-added, Parts-settled};
+ghost use Rattle.figures.specs.Statements.{Listed, Figures-carried, Excess-added, Parts-settled, Figures-factored, Two-at-most};
 use algebra::Algebra;
 
 // The assignments listed are exactly the lists of n alleles below k, and none is listed twice.
@@ -34,6 +34,20 @@ pub fn parts_are_settled() -> u8
 // The figures of the check families are those of the rules.
 pub fn check_families_hold() -> u8
     ensures { λ _. ⌜ Rows-hold ⌝ }
+{
+    0
+}
+
+// The figure of a locus is the product of the sums of its components.
+pub fn figures_are_factored<V: Algebra>() -> u8
+    ensures { λ _. ⌜ Figures-factored (V·Algebra .operations) ⌝ }
+{
+    0
+}
+
+// A component that has a link and only named readings has at most two fitting assignments.
+pub fn named_components_have_two_at_most() -> u8
+    ensures { λ _. ⌜ Two-at-most ⌝ }
 {
     0
 }
