@@ -48,13 +48,6 @@ other-settled a b x y z p q =
     omega (arith, eqb-true (min x y) a (r .0), eqb-true (max x y) b (r .1), eqb-true (min x z) a (t .0), eqb-true (max x z) b (t .1))
 
 module _ (L : Locus) (sound : Sound L) (s : ℕ) (c : List ℕ) (comp : Component (L .slots) (links (L .readings)) s c) (named : (r : Reading) → In r (own c (L .readings)) → r .class ≡ Several → ⊥) where
-  -- what a named reading of the component says of a fitting assignment
-  reads : (σ : List ℕ) → fits-own c (L .readings) σ ≡ true → (r : Reading) → In r (own c (L .readings)) → (a : ℕ) × (b : ℕ) × ((eqb (min (allele-at c σ (r .ends .0)) (allele-at c σ (r .ends .1))) a && eqb (max (allele-at c σ (r .ends .0)) (allele-at c σ (r .ends .1))) b) ≡ true) × (r .class ≡ Named a b)
-  reads σ f r i =
-      let q = own-in c (L .readings) r i in
-      let m = loud-named (r .class) (q .1) (named r i) in
-      (m .0, m .1, sym (sound .named r (m .0) (m .1) (allele-at c σ (r .ends .0)) (allele-at c σ (r .ends .1)) (q .0) (m .2)) ∙ every-at (λ x. x .fits (allele-at c σ (x .ends .0)) (allele-at c σ (x .ends .1))) r (own c (L .readings)) f i, m .2)
-
   module _ (σ τ : List ℕ) (f : fits-own c (L .readings) σ ≡ true) (g : fits-own c (L .readings) τ ≡ true) where
     -- a slot of the component at which the two agree
     Agree : ℕ → Type 0

@@ -71,7 +71,7 @@ own-inside L sound s c comp r i =
 module _ {V : Type 0} (o : Ops V) (l : Laws o) where
   cond-product : (a b : Bool) (x y : V) → cond (a && b) (o .product x y) (o .zero) ≡ o .product (cond a x (o .zero)) (cond b y (o .zero))
   cond-product true true x y = refl
-  cond-product true false x y = sym (absorbs-right o l 0 x)
+  cond-product true false x y = sym (absorbs-right o l x)
   cond-product false b x y = sym (l .absorbs (cond b y (o .zero)))
 
   cond-fold : {X : Type 0} (f : X → Bool) (g : X → V) (xs : List X) → cond (every f xs) (fold (o .one) (o .product) xs g) (o .zero) ≡ fold (o .one) (o .product) xs (λ x. cond (f x) (g x) (o .zero))
@@ -86,11 +86,11 @@ module _ {V : Type 0} (o : Ops V) (l : Laws o) (w : ℕ → V) (L : Locus) (soun
       (λ s i. comps .all s (let b = counting-in 0 (L .slots) s i in omega arith))
       (λ s i. let q = joined-in (λ c. c) s cs i in let e = comps .each (q .0) (q .1) in in-counting 0 (L .slots) s (omega arith) (let b = e .2 .exactly s .0 (q .2) .0 in omega arith))
 
-  fits-split : (ρ : ℕ → ℕ) → every (fits-at o l (L .alleles) ρ) (L .readings) ≡ every (λ c. every (fits-at o l (L .alleles) ρ) (own c (L .readings))) cs
+  fits-split : (ρ : ℕ → ℕ) → every (fits-at ρ) (L .readings) ≡ every (λ c. every (fits-at ρ) (own c (L .readings))) cs
   fits-split ρ = same-truth _ _ forward backward
     where
       fit : Reading → Bool
-      fit = fits-at o l (L .alleles) ρ
+      fit = fits-at ρ
       forward : every fit (L .readings) ≡ true → every (λ c. every fit (own c (L .readings))) cs ≡ true
       forward t =
           every-from (λ c. every fit (own c (L .readings))) cs
@@ -104,22 +104,22 @@ module _ {V : Type 0} (o : Ops V) (l : Laws o) (w : ℕ → V) (L : Locus) (soun
               let q = joined-in (λ c. c) (r .ends .0) cs (comps .all (r .ends .0) (sound .within r i .0)) in
               every-at fit r (own (q .0) (L .readings)) (every-at (λ c. every fit (own c (L .readings))) (q .0) cs t (q .1)) (in-own (q .0) (L .readings) r i e (q .2))
 
-  term-split : (ρ : ℕ → ℕ) → term-of o l (L .alleles) w (L .readings) (counting 0 (L .slots)) ρ ≡ fold (o .one) (o .product) cs (λ c. term-of o l (L .alleles) w (own c (L .readings)) c ρ)
+  term-split : (ρ : ℕ → ℕ) → term-of o w (L .readings) (counting 0 (L .slots)) ρ ≡ fold (o .one) (o .product) cs (λ c. term-of o w (own c (L .readings)) c ρ)
   term-split ρ =
       ap₂ (λ b x. cond b x (o .zero)) (fits-split ρ)
       (fold-perm (l .products) (λ s. w (ρ s)) reordered ∙ fold-joined (l .products) (λ c. c) (λ s. w (ρ s)) cs)
-      ∙ cond-fold o l (λ c. every (fits-at o l (L .alleles) ρ) (own c (L .readings))) (λ c. fold (o .one) (o .product) c (λ s. w (ρ s))) cs
+      ∙ cond-fold o l (λ c. every (fits-at ρ) (own c (L .readings))) (λ c. fold (o .one) (o .product) c (λ s. w (ρ s))) cs
 
   inside : (c : List ℕ) → In c cs → (r : Reading) → In r (own c (L .readings)) → In (r .ends .0) c × In (r .ends .1) c
   inside c i = let e = comps .each c i in own-inside L sound (e .0) c (e .2)
 
-  local : (c : List ℕ) → In c cs → Local o l (L .alleles) c (term-of o l (L .alleles) w (own c (L .readings)) c)
+  local : (c : List ℕ) → In c cs → Local c (term-of o w (own c (L .readings)) c)
   local c i s out σ a =
       ap₂ (λ b x. cond b x (o .zero))
       (fold-cong-in true _&&_ (own c (L .readings)) _ _ (λ r j. let q = inside c i r j in ap₂ (r .fits) (update-other σ s a (r .ends .0) (λ e. out (subst (λ t. In t c) e (q .0)))) (update-other σ s a (r .ends .1) (λ e. out (subst (λ t. In t c) e (q .1))))))
       (fold-cong-in (o .one) (o .product) c _ _ (λ t j. ap w (update-other σ s a t (λ e. out (subst (λ u. In u c) e j)))))
 
-  disjoint : (ds : List (List ℕ)) → Once (joined (λ c. c) ds) → Disjoint o l (L .alleles) ds
+  disjoint : (ds : List (List ℕ)) → Once (joined (λ c. c) ds) → Disjoint ds
   disjoint [] u = tt
   disjoint (d ∷ ds) u = (once-apart d (joined (λ c. c) ds) u, disjoint ds (once-back d (joined (λ c. c) ds) u))
 
@@ -128,7 +128,7 @@ module _ {V : Type 0} (o : Ops V) (l : Laws o) (w : ℕ → V) (L : Locus) (soun
       figure-summed o l (L .alleles) w L refl
       ∙ sum-cong o (L .alleles) (counting 0 (L .slots)) _ _ (λ _. 0) term-split
       ∙ sum-perm o l (L .alleles) reordered _ (λ _. 0)
-      ∙ sum-factors o l (L .alleles) cs (λ c. term-of o l (L .alleles) w (own c (L .readings)) c) local (disjoint cs (comps .once)) (λ _. 0)
+      ∙ sum-factors o l (L .alleles) cs (λ c. term-of o w (own c (L .readings)) c) local (disjoint cs (comps .once)) (λ _. 0)
       ∙ fold-cong-in (o .one) (o .product) cs _ _ (λ c i. sym (component-summed o l (L .alleles) w L c (λ _. 0) refl (comps .each c i .2 .once) (inside c i)))
 
 pub figures-factored : {V : Type 0} (o : Ops V) → Laws o → Figures-factored o

@@ -73,6 +73,14 @@ place-from i (a ∷ σ) ρ (suc j) =
 pub place-all : (σ : List ℕ) → place (counting 0 (length σ)) σ (λ _. 0) ≡ (λ s. getD σ s 0)
 place-all σ = fun-ext (λ s. ap (place (counting 0 (length σ)) σ (λ _. 0)) (omega arith) ∙ place-from 0 σ (λ _. 0) s)
 
+-- the reading fits the alleles of its two slots
+abbrev pub fits-at : (ℕ → ℕ) → Reading → Bool
+fits-at ρ r = r .fits (ρ (r .ends .0)) (ρ (r .ends .1))
+
+-- the term of a list of slots: the product of the weights of their alleles where the readings given fit, and zero where one breaks
+abbrev pub term-of : {V : Type 0} → Ops V → (ℕ → V) → List Reading → List ℕ → (ℕ → ℕ) → V
+term-of o w rs ss ρ = cond (every (fits-at ρ) rs) (fold (o .one) (o .product) ss (λ s. w (ρ s))) (o .zero)
+
 module _ {V : Type 0} (o : Ops V) (l : Laws o) (k : ℕ) where
   pub sum-listed : (ss : List ℕ) (F : (ℕ → ℕ) → V) (ρ : ℕ → ℕ) → sum-slots o k ss F ρ ≡ fold (o .zero) (o .sum) (assignments (length ss) k) (λ σ. F (place ss σ ρ))
   sum-listed [] F ρ = sym (neutral-right (l .sums) (F ρ))
@@ -81,36 +89,28 @@ module _ {V : Type 0} (o : Ops V) (l : Laws o) (k : ℕ) where
       (λ a. sum-listed ss F (update ρ s a) ∙ sym (fold-map (o .zero) (o .sum) (λ σ. a ∷ σ) (λ σ. F (place (s ∷ ss) σ ρ)) (assignments (length ss) k)))
       ∙ sym (fold-joined (l .sums) (λ a. map (λ σ. a ∷ σ) (assignments (length ss) k)) (λ σ. F (place (s ∷ ss) σ ρ)) (counting 0 k))
 
-  -- the reading fits the alleles of its two slots
-  abbrev pub fits-at : (ℕ → ℕ) → Reading → Bool
-  fits-at ρ r = r .fits (ρ (r .ends .0)) (ρ (r .ends .1))
-
-  -- the term of a list of slots: the product of the weights of their alleles where the readings given fit, and zero where one breaks
-  abbrev pub term-of : (ℕ → V) → List Reading → List ℕ → (ℕ → ℕ) → V
-  term-of w rs ss ρ = cond (every (fits-at ρ) rs) (fold (o .one) (o .product) ss (λ s. w (ρ s))) (o .zero)
-
-  pub figure-summed : (w : ℕ → V) (L : Locus) → L .alleles ≡ k → figure o w L ≡ sum-slots o k (counting 0 (L .slots)) (term-of w (L .readings) (counting 0 (L .slots))) (λ _. 0)
+  pub figure-summed : (w : ℕ → V) (L : Locus) → L .alleles ≡ k → figure o w L ≡ sum-slots o k (counting 0 (L .slots)) (term-of o w (L .readings) (counting 0 (L .slots))) (λ _. 0)
   figure-summed w L e =
       fold-kept (l .sums) (fits-all (L .readings)) (product o w) (assignments (L .slots) (L .alleles))
       ∙ ap (λ m. fold (o .zero) (o .sum) (assignments (L .slots) m) (λ σ. cond (fits-all (L .readings) σ) (product o w σ) (o .zero))) e
       ∙ fold-cong-in (o .zero) (o .sum) (assignments (L .slots) k) _ _ (λ σ i. one σ (listed-fits (L .slots) k σ i .0))
-      ∙ ap (λ m. fold (o .zero) (o .sum) (assignments m k) (λ σ. term-of w (L .readings) (counting 0 (L .slots)) (place (counting 0 (L .slots)) σ (λ _. 0)))) (sym (length-counting 0 (L .slots)))
-      ∙ sym (sum-listed (counting 0 (L .slots)) (term-of w (L .readings) (counting 0 (L .slots))) (λ _. 0))
+      ∙ ap (λ m. fold (o .zero) (o .sum) (assignments m k) (λ σ. term-of o w (L .readings) (counting 0 (L .slots)) (place (counting 0 (L .slots)) σ (λ _. 0)))) (sym (length-counting 0 (L .slots)))
+      ∙ sym (sum-listed (counting 0 (L .slots)) (term-of o w (L .readings) (counting 0 (L .slots))) (λ _. 0))
     where
-      one : (σ : List ℕ) → length σ ≡ L .slots → cond (fits-all (L .readings) σ) (product o w σ) (o .zero) ≡ term-of w (L .readings) (counting 0 (L .slots)) (place (counting 0 (L .slots)) σ (λ _. 0))
+      one : (σ : List ℕ) → length σ ≡ L .slots → cond (fits-all (L .readings) σ) (product o w σ) (o .zero) ≡ term-of o w (L .readings) (counting 0 (L .slots)) (place (counting 0 (L .slots)) σ (λ _. 0))
       one σ q =
           ap (λ x. cond (fits-all (L .readings) σ) x (o .zero)) (ap (λ τ. product o w τ) (fill-by-all (λ s. getD σ s 0) σ (length σ) 0 refl (λ s h. refl)) ∙ fold-map (o .one) (o .product) (λ s. getD σ s 0) w (counting 0 (length σ)))
-          ∙ ap (λ ρ. term-of w (L .readings) (counting 0 (length σ)) ρ) (sym (place-all σ))
-          ∙ ap (λ n. term-of w (L .readings) (counting 0 n) (place (counting 0 n) σ (λ _. 0))) q
+          ∙ ap (λ ρ. term-of o w (L .readings) (counting 0 (length σ)) ρ) (sym (place-all σ))
+          ∙ ap (λ n. term-of o w (L .readings) (counting 0 n) (place (counting 0 n) σ (λ _. 0))) q
 
-  pub component-summed : (w : ℕ → V) (L : Locus) (ss : List ℕ) (ρ : ℕ → ℕ) → L .alleles ≡ k → Once ss → ((r : Reading) → In r (own ss (L .readings)) → In (r .ends .0) ss × In (r .ends .1) ss) → component-sum o w L ss ≡ sum-slots o k ss (term-of w (own ss (L .readings)) ss) ρ
+  pub component-summed : (w : ℕ → V) (L : Locus) (ss : List ℕ) (ρ : ℕ → ℕ) → L .alleles ≡ k → Once ss → ((r : Reading) → In r (own ss (L .readings)) → In (r .ends .0) ss × In (r .ends .1) ss) → component-sum o w L ss ≡ sum-slots o k ss (term-of o w (own ss (L .readings)) ss) ρ
   component-summed w L ss ρ e once inside =
       fold-kept (l .sums) (fits-own ss (L .readings)) (product o w) (assignments (length ss) (L .alleles))
       ∙ ap (λ m. fold (o .zero) (o .sum) (assignments (length ss) m) (λ σ. cond (fits-own ss (L .readings) σ) (product o w σ) (o .zero))) e
       ∙ fold-cong-in (o .zero) (o .sum) (assignments (length ss) k) _ _ (λ σ i. one σ (listed-fits (length ss) k σ i .0))
-      ∙ sym (sum-listed ss (term-of w (own ss (L .readings)) ss) ρ)
+      ∙ sym (sum-listed ss (term-of o w (own ss (L .readings)) ss) ρ)
     where
-      one : (σ : List ℕ) → length σ ≡ length ss → cond (fits-own ss (L .readings) σ) (product o w σ) (o .zero) ≡ term-of w (own ss (L .readings)) ss (place ss σ ρ)
+      one : (σ : List ℕ) → length σ ≡ length ss → cond (fits-own ss (L .readings) σ) (product o w σ) (o .zero) ≡ term-of o w (own ss (L .readings)) ss (place ss σ ρ)
       one σ q =
           ap₂ (λ b x. cond b x (o .zero))
           (fold-cong-in true _&&_ (own ss (L .readings)) _ _ (λ r i. sym (ap₂ (r .fits) (place-inside ss σ ρ once q (r .ends .0) (inside r i .0)) (place-inside ss σ ρ once q (r .ends .1) (inside r i .1)))))

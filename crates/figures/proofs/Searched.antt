@@ -10,8 +10,12 @@ use Rattle.std.specs.Iters.{counting}
 use Rattle.std.proofs.shelf.Lists.{getD-set-same, getD-set-other}
 use Rattle.std.proofs.shelf.Tests.{cases-eq}
 use Rattle.algebra.specs.Semiring.{Ops, Laws}
-use Rattle.figures.specs.Lists.{fold, In, Once}
+use Rattle.figures.specs.Lists.{fold, every, In, Once}
+use Rattle.figures.specs.Locus.{Locus}
+use Rattle.figures.specs.Graph.{Component, Sound, links, own, component-sum}
 use Rattle.figures.proofs.Folds.{fold-cong, fold-unit}
+use Rattle.figures.proofs.Placed.{fits-at, component-summed}
+use Rattle.figures.proofs.Factored.{own-inside}
 use Rattle.figures.proofs.SlotSums.{update, update-same, update-other, sum-slots, sum-at, sum-pull, absorbs-right}
 
 -- a write into the list of alleles replaces one
@@ -24,13 +28,14 @@ set-update xs s a h = fun-ext (λ t. go t (cases-eq t s))
         ∙ sym (ap (update (λ u. getD xs u 0) s a) e ∙ update-same (λ u. getD xs u 0) s a)
     go t (inr ne) = getD-set-other xs s t a 0 ne ∙ sym (update-other (λ u. getD xs u 0) s a t ne)
 
-module _ {V : Type 0} (o : Ops V) (l : Laws o) (k : ℕ) (w : ℕ → V) (h : (ℕ → ℕ) → Bool) where
+module _ {V : Type 0} (o : Ops V) (k : ℕ) (w : ℕ → V) (h : (ℕ → ℕ) → Bool) where
   -- each allele of each slot weighed; one where the test passes at the end, zero where it fails
   abbrev pub searched : List ℕ → (ℕ → ℕ) → V
   searched [] ρ = cond (h ρ) (o .one) (o .zero)
   searched (s ∷ ss) ρ = fold (o .zero) (o .sum) (counting 0 k) (λ a. o .product (w a) (searched ss (update ρ s a)))
 
-  pub searched-is : (ss : List ℕ) → Once ss → (ρ : ℕ → ℕ) → sum-slots o k ss (λ σ. cond (h σ) (fold (o .one) (o .product) ss (λ s. w (σ s))) (o .zero)) ρ ≡ searched ss ρ
+module _ {V : Type 0} (o : Ops V) (l : Laws o) (k : ℕ) (w : ℕ → V) (h : (ℕ → ℕ) → Bool) where
+  pub searched-is : (ss : List ℕ) → Once ss → (ρ : ℕ → ℕ) → sum-slots o k ss (λ σ. cond (h σ) (fold (o .one) (o .product) ss (λ s. w (σ s))) (o .zero)) ρ ≡ searched o k w h ss ρ
   searched-is [] once ρ = refl
   searched-is (s ∷ ss) once ρ =
       fold-cong (o .zero) (o .sum) (counting 0 k) _ _
@@ -40,12 +45,18 @@ module _ {V : Type 0} (o : Ops V) (l : Laws o) (k : ℕ) (w : ℕ → V) (h : (�
     where
       out : (b : Bool) (x y z : V) → y ≡ z → cond b (o .product y x) (o .zero) ≡ o .product z (cond b x (o .zero))
       out true x y z e = ap (λ t. o .product t x) e
-      out false x y z e = sym (absorbs-right o l k z)
+      out false x y z e = sym (absorbs-right o l z)
 
   -- nothing is found where a fact that no slot to come can change makes the test fail
-  pub searched-dead : (D : (ℕ → ℕ) → Type 0) → ((σ : ℕ → ℕ) → D σ → h σ ≡ false) → (ss : List ℕ) → ((s : ℕ) → In s ss → (σ : ℕ → ℕ) (a : ℕ) → D σ → D (update σ s a)) → (ρ : ℕ → ℕ) → D ρ → searched ss ρ ≡ o .zero
+  pub searched-dead : (D : (ℕ → ℕ) → Type 0) → ((σ : ℕ → ℕ) → D σ → h σ ≡ false) → (ss : List ℕ) → ((s : ℕ) → In s ss → (σ : ℕ → ℕ) (a : ℕ) → D σ → D (update σ s a)) → (ρ : ℕ → ℕ) → D ρ → searched o k w h ss ρ ≡ o .zero
   searched-dead D fails [] stays ρ d = ap (λ b. cond b (o .one) (o .zero)) (fails ρ d)
   searched-dead D fails (s ∷ ss) stays ρ d =
       fold-cong (o .zero) (o .sum) (counting 0 k) _ _
-      (λ a. ap (o .product (w a)) (searched-dead D fails ss (λ t i. stays t (inr i)) (update ρ s a) (stays s (inl refl) ρ a d)) ∙ absorbs-right o l k (w a))
+      (λ a. ap (o .product (w a)) (searched-dead D fails ss (λ t i. stays t (inr i)) (update ρ s a) (stays s (inl refl) ρ a d)) ∙ absorbs-right o l (w a))
       ∙ fold-unit (l .sums) (counting 0 k)
+
+-- the sum of a component is found by the search over its slots in any order
+pub component-searched : {V : Type 0} (o : Ops V) → Laws o → (w : ℕ → V) (L : Locus) → Sound L → (s : ℕ) (c : List ℕ) → Component (L .slots) (links (L .readings)) s c → (ρ : ℕ → ℕ) → component-sum o w L c ≡ searched o (L .alleles) w (λ σ. every (fits-at σ) (own c (L .readings))) c ρ
+component-searched o l w L sound s c comp ρ =
+    component-summed o l (L .alleles) w L c ρ refl (comp .once) (own-inside L sound s c comp)
+    ∙ searched-is o l (L .alleles) w (λ σ. every (fits-at σ) (own c (L .readings))) c (comp .once) ρ

@@ -72,7 +72,7 @@ module _ {V : Type 0} (o : Ops V) (k : ℕ) where
       fold-cong (o .zero) (o .sum) (counting 0 k) _ _
       (λ a. sum-at s ts (λ i. out (inr i)) F G (update ρ t a) (λ σ q. e σ (q ∙ update-other ρ t a s (λ p. out (inl p)))))
 
-module _ {V : Type 0} (o : Ops V) (l : Laws o) (k : ℕ) where
+module _ {V : Type 0} (o : Ops V) (l : Laws o) where
   pub absorbs-right : (x : V) → o .product x (o .zero) ≡ o .zero
   absorbs-right x = l .products .comm x (o .zero) ∙ l .absorbs x
 
@@ -81,6 +81,16 @@ module _ {V : Type 0} (o : Ops V) (l : Laws o) (k : ℕ) where
   spread x (y ∷ ys) f =
       ap (o .sum (o .product x (f y))) (spread x ys f) ∙ sym (l .distributes x (f y) (fold (o .zero) (o .sum) ys f))
 
+-- a term that depends on the slots of a list alone
+abbrev pub Local : {V : Type 0} → List ℕ → ((ℕ → ℕ) → V) → Type 0
+Local c f = (s : ℕ) → (In s c → ⊥) → (σ : ℕ → ℕ) (a : ℕ) → f (update σ s a) ≡ f σ
+
+-- lists that share no slot
+abbrev pub Disjoint : List (List ℕ) → Type 0
+Disjoint [] = Unit {0}
+Disjoint (c ∷ cs) = ((s : ℕ) → In s c → In s (joined (λ d. d) cs) → ⊥) × Disjoint cs
+
+module _ {V : Type 0} (o : Ops V) (l : Laws o) (k : ℕ) where
   sum-swap : (s t : ℕ) (ss : List ℕ) (F : (ℕ → ℕ) → V) (ρ : ℕ → ℕ) → sum-slots o k (s ∷ (t ∷ ss)) F ρ ≡ sum-slots o k (t ∷ (s ∷ ss)) F ρ
   sum-swap s t ss F ρ = go (cases-eq s t)
     where
@@ -103,7 +113,7 @@ module _ {V : Type 0} (o : Ops V) (l : Laws o) (k : ℕ) where
   sum-pull (s ∷ ss) f g out ρ =
       fold-cong (o .zero) (o .sum) (counting 0 k) _ _
       (λ a. sum-pull ss f g (λ t i. out t (inr i)) (update ρ s a) ∙ ap (λ x. o .product x (sum-slots o k ss g (update ρ s a))) (out s (inl refl) ρ a))
-      ∙ spread (f ρ) (counting 0 k) (λ a. sum-slots o k ss g (update ρ s a))
+      ∙ spread o l (f ρ) (counting 0 k) (λ a. sum-slots o k ss g (update ρ s a))
 
   -- the sum of a product of two terms that depend on other slots is the product of their sums
   pub sum-factor : (ss ts : List ℕ) (f g : (ℕ → ℕ) → V) → ((s : ℕ) → In s ts → (σ : ℕ → ℕ) (a : ℕ) → f (update σ s a) ≡ f σ) → ((s : ℕ) → In s ss → (σ : ℕ → ℕ) (a : ℕ) → g (update σ s a) ≡ g σ) → (ρ : ℕ → ℕ) → sum-slots o k (ss ++ ts) (λ σ. o .product (f σ) (g σ)) ρ ≡ o .product (sum-slots o k ss f ρ) (sum-slots o k ts g ρ)
@@ -112,15 +122,6 @@ module _ {V : Type 0} (o : Ops V) (l : Laws o) (k : ℕ) where
       ∙ sum-cong o k ss _ _ ρ (λ σ. sum-pull ts f g out-f σ ∙ l .products .comm (f σ) (sum-slots o k ts g σ))
       ∙ sum-pull ss (sum-slots o k ts g) f (λ s i σ a. sum-ignores o k s ts g (out-g s i) σ a) ρ
       ∙ l .products .comm (sum-slots o k ts g ρ) (sum-slots o k ss f ρ)
-
-  -- a term that depends on the slots of a list alone
-  abbrev pub Local : List ℕ → ((ℕ → ℕ) → V) → Type 0
-  Local c f = (s : ℕ) → (In s c → ⊥) → (σ : ℕ → ℕ) (a : ℕ) → f (update σ s a) ≡ f σ
-
-  -- lists that share no slot
-  abbrev pub Disjoint : List (List ℕ) → Type 0
-  Disjoint [] = Unit {0}
-  Disjoint (c ∷ cs) = ((s : ℕ) → In s c → In s (joined (λ d. d) cs) → ⊥) × Disjoint cs
 
   pub sum-factors : (cs : List (List ℕ)) (t : List ℕ → (ℕ → ℕ) → V) → ((c : List ℕ) → In c cs → Local c (t c)) → Disjoint cs → (ρ : ℕ → ℕ) → sum-slots o k (joined (λ c. c) cs) (λ σ. fold (o .one) (o .product) cs (λ c. t c σ)) ρ ≡ fold (o .one) (o .product) cs (λ c. sum-slots o k c (t c) ρ)
   sum-factors [] t local d ρ = refl

@@ -1,0 +1,11 @@
+// The figure of a locus, worked out component by component.
+mod components;
+mod gather;
+mod locus_figure;
+mod order;
+mod search;
+mod slots;
+
+pub use components::figure;
+pub use locus_figure::WideLocus;
+pub use slots::Held;
