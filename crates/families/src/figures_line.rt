@@ -11,6 +11,7 @@ pub struct Figures {
     pub count: Count,
     pub least: Least,
     pub best: Best,
+    pub parts: usize,
 }
 
 // A count that stopped at the cap has a plus behind it, and a cost at the cap is none.
@@ -26,10 +27,13 @@ pub impl fmt::Display for Figures as FiguresDisplay {
         }
         let best = self.best.cost;
         if best == CAP {
-            return f.write_str("none");
+            f.write_str("none")?;
+        } else {
+            write!(f, "{best} ")?;
+            print_number(self.best.number, f)?;
         }
-        write!(f, "{best} ")?;
-        print_number(self.best.number, f)
+        let parts = self.parts;
+        write!(f, "; {parts}")
     }
 }
 

@@ -72,12 +72,14 @@ module _ (L : Locus) (sound : Sound L) (s : ℕ) (c : List ℕ) (comp : Componen
 
     along : (r : Reading) → In r (L .readings) → loud (r .class) ≡ true → (Agree (r .ends .0) → Agree (r .ends .1)) × (Agree (r .ends .1) → Agree (r .ends .0))
     unfolding Agree
-    along r i e =
-        ((λ h. (onward (h .0), pair-of r (in-own c (L .readings) r i e (h .0)) (allele-at c σ (r .ends .0)) (allele-at c σ (r .ends .1)) (allele-at c τ (r .ends .1)) (fit-of σ f r (in-own c (L .readings) r i e (h .0))) (subst (λ x. r .fits x (allele-at c τ (r .ends .1)) ≡ true) (sym (h .1)) (fit-of τ g r (in-own c (L .readings) r i e (h .0)))))),
-        (λ h. let first = backward (h .0) in (first, unordered r (in-own c (L .readings) r i e first) (allele-at c σ (r .ends .1)) (allele-at c σ (r .ends .0)) (allele-at c τ (r .ends .0)) (fit-of σ f r (in-own c (L .readings) r i e first)) (subst (λ x. r .fits (allele-at c τ (r .ends .0)) x ≡ true) (sym (h .1)) (fit-of τ g r (in-own c (L .readings) r i e first))))))
+    along r i e = (
+      (λ h. (onward (h .0), pair-of r (in-own c (L .readings) r i e (h .0)) (allele-at c σ (r .ends .0)) (allele-at c σ (r .ends .1)) (allele-at c τ (r .ends .1)) (fit-of σ f r (in-own c (L .readings) r i e (h .0))) (subst (λ x. r .fits x (allele-at c τ (r .ends .1)) ≡ true) (sym (h .1)) (fit-of τ g r (in-own c (L .readings) r i e (h .0)))))),
+      (λ h. let first = backward (h .0) in (first, unordered r (in-own c (L .readings) r i e first) (allele-at c σ (r .ends .1)) (allele-at c σ (r .ends .0)) (allele-at c τ (r .ends .0)) (fit-of σ f r (in-own c (L .readings) r i e first)) (subst (λ x. r .fits (allele-at c τ (r .ends .0)) x ≡ true) (sym (h .1)) (fit-of τ g r (in-own c (L .readings) r i e first))))),
+    )
       where
         onward : In (r .ends .0) c → In (r .ends .1) c
         onward j = comp .exactly (r .ends .1) .1 (sound .within r i .1, join (comp .exactly (r .ends .0) .0 j .1) (link (loud-link (L .readings) r i e)))
+
         backward : In (r .ends .1) c → In (r .ends .0) c
         backward j = comp .exactly (r .ends .0) .1 (sound .within r i .0, join (comp .exactly (r .ends .1) .0 j .1) (back (link (loud-link (L .readings) r i e))))
 
@@ -103,9 +105,9 @@ module _ (L : Locus) (sound : Sound L) (s : ℕ) (c : List ℕ) (comp : Componen
       let m = loud-named (r .class) (own-in c (L .readings) r i .1) (named r i) in
       no-more (λ σ x. allele-at c σ (r .ends .0) ≡ x) (kept (fits-own c (L .readings)) (assignments (length c) (L .alleles))) (m .0 ∷ (m .1 ∷ []))
       (λ σ τ x j k e d.
-        let a = kept-in (fits-own c (L .readings)) σ (assignments (length c) (L .alleles)) j in
-        let b = kept-in (fits-own c (L .readings)) τ (assignments (length c) (L .alleles)) k in
-        agreed σ τ (a .0) (b .0) (listed-fits (length c) (L .alleles) σ (a .1) .0) (listed-fits (length c) (L .alleles) τ (b .1) .0) (r .ends .0) (own-in c (L .readings) r i .2) (e ∙ sym d))
+      let a = kept-in (fits-own c (L .readings)) σ (assignments (length c) (L .alleles)) j in
+      let b = kept-in (fits-own c (L .readings)) τ (assignments (length c) (L .alleles)) k in
+      agreed σ τ (a .0) (b .0) (listed-fits (length c) (L .alleles) σ (a .1) .0) (listed-fits (length c) (L .alleles) τ (b .1) .0) (r .ends .0) (own-in c (L .readings) r i .2) (e ∙ sym d))
       (once-kept (fits-own c (L .readings)) (assignments (length c) (L .alleles)) (once-assignments (length c) (L .alleles)))
       (λ σ j. let a = kept-in (fits-own c (L .readings)) σ (assignments (length c) (L .alleles)) j in choose σ (a .0) m (cases-lt (allele-at c σ (r .ends .0)) (allele-at c σ (r .ends .1))))
     where

@@ -91,10 +91,12 @@ module _ {V : Type 0} (o : Ops V) (l : Laws o) (w : ℕ → V) (L : Locus) (soun
     where
       fit : Reading → Bool
       fit = fits-at ρ
+
       forward : every fit (L .readings) ≡ true → every (λ c. every fit (own c (L .readings))) cs ≡ true
       forward t =
           every-from (λ c. every fit (own c (L .readings))) cs
           (λ c i. every-from fit (own c (L .readings)) (λ r j. every-at fit r (L .readings) t (own-in c (L .readings) r j .0)))
+
       backward : every (λ c. every fit (own c (L .readings))) cs ≡ true → every fit (L .readings) ≡ true
       backward t = every-from fit (L .readings) (λ r i. go r i (cases-bool (loud (r .class))))
         where

@@ -36,6 +36,7 @@ module _ {X : Type 0} where
       onward : (z : X) → In z xs → (z ≡ x) ⊎ In z (without x ys (f x (inl refl))) → In z (without x ys (f x (inl refl)))
       onward z j (inl e) = absurd (o .0 (subst (λ t. In t xs) e j))
       onward z j (inr k) = k
+
       backward : (z : X) → (z ≡ x → ⊥) → (z ≡ x) ⊎ In z xs → In z xs
       backward z q (inl e) = absurd (q e)
       backward z q (inr k) = k

@@ -66,6 +66,7 @@ module _ (ss : List ℕ) (law : lawful ss ≡ true) where
         apart : (x : ℕ) → In x ss → In x (s ∷ []) → ⊥
         apart x i (inl e) = has-not ss s new (subst (λ t. In t ss) e i)
         apart x i (inr j) = j
+
         below : (t : ℕ) → In t ss ⊎ In t (s ∷ []) → t < 64
         below t (inl i) = lawful-below t i
         below t (inr (inl e)) = omega arith
@@ -89,9 +90,11 @@ marked-push marks ss s e small m t = go (cases-eq t s)
     or-true : (b : Bool) → (b || true) ≡ true
     or-true true = refl
     or-true false = refl
+
     or-false : (b : Bool) → (b || false) ≡ b
     or-false true = refl
     or-false false = refl
+
     go : (t ≡ s) ⊎ (t ≡ s → ⊥) → getD (set marks s true) t false ≡ has (ss ++ s ∷ []) t
     go (inl q) =
         ap (λ u. getD (set marks s true) u false) q ∙ getD-set-same marks s true false (omega arith)

@@ -77,21 +77,26 @@ module _ (n : ℕ) (ls : List (ℕ × ℕ)) where
       where
         own-slot : In i c
         own-slot = comp .exactly i .1 (small, same)
+
         which : (d : List ℕ) → (d ≡ c) ⊎ In d cs → (s : ℕ) × In s d × Component n ls s d
         which d (inl q) = (i, subst (In i) (sym q) own-slot, subst (Component n ls i) (sym q) comp)
         which d (inr j) = p .each d j
+
         apart : (t : ℕ) → In t c → In t (joined (λ d. d) cs) → ⊥
         apart t j k =
             let q = joined-in (λ d. d) t cs k in
             let e = p .each (q .0) (q .1) in
             let chained : Chain ls (e .0) i = join (e .2 .exactly t .0 (q .2) .1) (back (comp .exactly t .0 j .1)) in
             both-ways (getD marks i false) free (p .known i (in-joined (λ d. d) (q .0) i cs (q .1) (e .2 .exactly i .1 (small, chained))))
+
         from-mark : (t : ℕ) → (getD marks t false ≡ true) ⊎ (has c t ≡ true) → In t (c ++ joined (λ d. d) cs)
         from-mark t (inl e) = in-right t c (joined (λ d. d) cs) (p .marked t e)
         from-mark t (inr e) = in-left t c (joined (λ d. d) cs) (has-in c t e)
+
         to-mark : (t : ℕ) → In t c ⊎ In t (joined (λ d. d) cs) → (getD marks t false || has c t) ≡ true
         to-mark t (inl j) = or-right (getD marks t false) (has c t) (in-has c t j)
         to-mark t (inr j) = or-left (getD marks t false) (has c t) (p .known t j)
+
         go : (t : ℕ) → t < i + 1 → (t ≡ i) ⊎ (t ≡ i → ⊥) → In t (c ++ joined (λ d. d) cs)
         go t h (inl q) = in-left t c (joined (λ d. d) cs) (subst (λ u. In u c) (sym q) own-slot)
         go t h (inr ne) = in-right t c (joined (λ d. d) cs) (p .covered t (omega arith))
@@ -178,8 +183,10 @@ nothing-set h fits order small once = record {
   where
     nothing : Option ℕ
     nothing = None
+
     none-set : List (Option ℕ)
     none-set = replicate 64 None
+
     blank : (t : ℕ) → getD none-set t None ≡ None
     blank t = go (cases-lt t 64)
       where

@@ -64,6 +64,7 @@ push-in ss s t i = go (ltb s 64 && not (has ss s)) i
     one (inl j) = inl j
     one (inr (inl e)) = inr e
     one (inr (inr j)) = elim j [ ]
+
     go : (b : Bool) → In t (cond b (ss ++ s ∷ []) ss) → In t ss ⊎ (t ≡ s)
     go true j = one (in-append t ss (s ∷ []) j)
     go false j = inl j
@@ -108,6 +109,7 @@ follow-in s ss l t i = second (eqb (l .1) s) refl i
         go (inl k) = inl k
         go (inr q) = inr (inl (is-pair s t l (eqb-true (l .0) s e) (sym q)))
     fst false e j = inl j
+
     second : (b : Bool) → eqb (l .1) s ≡ b → In t (cond b (pushed (first s ss l) (l .0)) (first s ss l)) → In t ss ⊎ (((s, t) ≡ l) ⊎ ((t, s) ≡ l))
     second true e j = go (push-in (first s ss l) (l .0) t j)
       where
@@ -146,6 +148,7 @@ reached-in (l ∷ ls) s ss t i = go (reached-in ls s (follow s ss l) t i)
     one (inl j) = inl j
     one (inr (inl p)) = inr (inl (inl p))
     one (inr (inr p)) = inr (inr (inl p))
+
     go : In t (follow s ss l) ⊎ Joined ls s t → In t ss ⊎ Joined (l ∷ ls) s t
     go (inl j) = one (follow-in s ss l t j)
     go (inr (inl j)) = inr (inl (inr j))
@@ -162,6 +165,7 @@ reached-there (l ∷ ls) small s ss t j = go (reached-there ls (λ a b i. small 
         let b = small (l .0) (l .1) (inl refl) in
         let g = reached-grows ls s (follow s ss l) in
         subst (In t) (sym (g .1)) (in-left t (follow s ss l) (g .0) (follow-there s ss l t (b .0) (b .1) p))
+
     go : (Joined ls s t → In t (reached ls s (follow s ss l))) → Joined (l ∷ ls) s t → In t (reached ls s (follow s ss l))
     go ih (inl (inl p)) = now-there (inl p)
     go ih (inl (inr i)) = ih (inl i)
@@ -206,18 +210,24 @@ module _ (n : ℕ) (ls : List (ℕ × ℕ)) (within : (a b : ℕ) → In (a, b) 
     where
       s : ℕ
       s = getD ss next 0
+
       ext : (ext : List ℕ) × (reached ls s ss ≡ ss ++ ext)
       ext = reached-grows ls s ss
+
       grown : (t : ℕ) → In t ss → In t (reached ls s ss)
       grown t i = subst (In t) (sym (ext .1)) (in-left t ss (ext .0) i)
+
       step : (t : ℕ) → Joined ls s t → (t < n) × Chain ls s t
       step t (inl i) = (within s t i .1, link i)
       step t (inr i) = (within t s i .0, back (link i))
+
       found : (t : ℕ) → In t ss ⊎ Joined ls s t → (t < n) × Chain ls slot t
       found t (inl i) = g .inside t i
       found t (inr q) = (step t q .0, join (g .inside s (at-place 0 ss next h) .1) (step t q .1))
+
       same-place : (j : ℕ) → j < length ss → getD (reached ls s ss) j 0 ≡ getD ss j 0
       same-place j l = ap (λ xs. getD xs j 0) (ext .1) ∙ getD-append-left ss (ext .0) 0 j l
+
       follow-at : (j t : ℕ) → (j ≡ next) ⊎ (j ≡ next → ⊥) → j < next + 1 → Joined ls (getD (reached ls s ss) j 0) t → In t (reached ls s ss)
       follow-at j t (inl e) l q =
           reached-there ls (λ a b i. (omega (arith, within a b i .0), omega (arith, within a b i .1))) s ss t
@@ -234,6 +244,7 @@ module _ (n : ℕ) (ls : List (ℕ × ℕ)) (within : (a b : ℕ) → In (a, b) 
       along a b q i =
           let r = place-of a 0 ss i in
           g .followed (r .0) b (omega (arith, r .1)) (subst (λ u. Joined ls u b) (sym (r .2)) q)
+
       closed : {s t : ℕ} → Chain ls s t → (In s ss → In t ss) × (In t ss → In s ss)
       closed same = ((λ i. i), λ i. i)
       closed {s} {t} (link i) = (along s t (inl i), along t s (inr i))

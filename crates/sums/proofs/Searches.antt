@@ -84,6 +84,7 @@ module _ (h : Held) (class : ℕ → Class) (fits : ℕ → ℕ → ℕ → Bool
     where
       whole : take at order ≡ order
       whole = take-all at order e
+
       fit : (r : Reading) → In r (own order (readings-of (told h) class fits)) → fits-at (env xs) r ≡ true
       fit r i =
           let q = reading-in h class fits r (own-in order (readings-of (told h) class fits) r i .0) in
@@ -130,10 +131,12 @@ module _ (h : Held) (class : ℕ → Class) (fits : ℕ → ℕ → ℕ → Bool
       where
         new : List (Option ℕ)
         new = set xs (getD order at 0) (Some a)
+
         done-at : (t : ℕ) → (t ≡ getD order at 0) ⊎ (t ≡ getD order at 0 → ⊥) → In t (take at order) ⊎ (t ≡ getD order at 0) → is-set (set xs (getD order at 0) (Some a)) t ≡ true
         done-at t (inl q) j = ap (is-set (set xs (getD order at 0) (Some a))) q ∙ is-set-same xs (getD order at 0) a slot-small
         done-at t (inr ne) (inl j) = is-set-other xs (getD order at 0) a t ne ∙ s .done t j
         done-at t (inr ne) (inr q) = absurd (ne q)
+
         fit : (p : ℕ) → p < h .persons → ((eqb (pair-of h p .0) (getD order at 0) || eqb (pair-of h p .1) (getD order at 0)) ≡ true) ⊎ ((eqb (pair-of h p .0) (getD order at 0) || eqb (pair-of h p .1) (getD order at 0)) ≡ false) → agrees (fits p) (getD (set xs (getD order at 0) (Some a)) (pair-of h p .0) None) (getD (set xs (getD order at 0) (Some a)) (pair-of h p .1) None) ≡ true
         fit p l (inl touched) =
             let e = every-at (passes-at h fits (set xs (getD order at 0) (Some a)) (getD order at 0)) p (counting 0 (h .persons)) pass (in-counting 0 (h .persons) p (omega arith) (omega arith)) in
@@ -151,6 +154,7 @@ module _ (h : Held) (class : ℕ → Class) (fits : ℕ → ℕ → ℕ → Bool
       where
         new : List (Option ℕ)
         new = set xs (getD order at 0) (Some a)
+
         dead : (p : ℕ) → In p (counting 0 (h .persons)) → passes-at h fits (set xs (getD order at 0) (Some a)) (getD order at 0) p ≡ false → searched o k w (fits-order order (readings-of (told h) class fits)) (drop (at + 1) order) (env (set xs (getD order at 0) (Some a))) ≡ o .zero
         dead p i e =
             let q = or-parts (not (eqb (pair-of h p .0) (getD order at 0) || eqb (pair-of h p .1) (getD order at 0))) (agrees (fits p) (getD new (pair-of h p .0) None) (getD new (pair-of h p .1) None)) e in
@@ -165,6 +169,7 @@ module _ (h : Held) (class : ℕ → Class) (fits : ℕ → ℕ → ℕ → Bool
           where
             apart : (t : ℕ) → In t (take (at + 1) order) → In t (drop (at + 1) order) → ⊥
             apart t x y = once-parts t (take (at + 1) order) (drop (at + 1) order) (subst Once (sym (take-append-drop (at + 1) order)) (s .once)) x y
+
             fails : (p : ℕ) → p < h .persons → In (pair-of h p .0) order → (σ : ℕ → ℕ) → fits p (σ (pair-of h p .0)) (σ (pair-of h p .1)) ≡ false → fits-order order (readings-of (told h) class fits) σ ≡ false
             fails p l j σ d =
                 let t = told-at h class fits p l in

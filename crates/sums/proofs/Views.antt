@@ -55,11 +55,11 @@ pub seen-sound : (h : Held) (k : ℕ) (locus : ℕ) (class : ℕ → ℕ → Cla
 seen-sound h k locus class fits rules = record {
   within = ends-within h (class locus) (fits locus);
   silent = λ r a b i e.
-    let q = reading-in h (class locus) (fits locus) r i in
-    ap (λ x. x .fits a b) (q .2) ∙ rules .silent locus (q .0) a b (sym (ap (λ x. x .class) (q .2)) ∙ e);
+      let q = reading-in h (class locus) (fits locus) r i in
+      ap (λ x. x .fits a b) (q .2) ∙ rules .silent locus (q .0) a b (sym (ap (λ x. x .class) (q .2)) ∙ e);
   named = λ r a b x y i e.
-    let q = reading-in h (class locus) (fits locus) r i in
-    ap (λ z. z .fits x y) (q .2) ∙ rules .named locus (q .0) a b x y (sym (ap (λ z. z .class) (q .2)) ∙ e);
+      let q = reading-in h (class locus) (fits locus) r i in
+      ap (λ z. z .fits x y) (q .2) ∙ rules .named locus (q .0) a b x y (sym (ap (λ z. z .class) (q .2)) ∙ e);
 }
 
 pub items-length : (g : Gathered) → length (items g) ≡ g .count

@@ -131,7 +131,12 @@ impl<M: Model> Site<'_, M> {
 
 // The figure of a locus by an algebra: refused exactly where the locus is wide, and else the sum, over all assignments of alleles that fit the
 // readings, of the products of their weights. There is one cost for each allele; of more than 16 costs the first 16 count.
-pub fn figure<'a, V: Algebra, M: Model>(held: &'a Held, model: &'a M, locus: usize, costs: &'a [u16]) -> Result<V, WideLocus>
+pub fn figure<'a, V: Algebra, M: Model>(
+    held: &'a Held,
+    model: &'a M,
+    locus: usize,
+    costs: &'a [u16],
+) -> Result<V, WideLocus>
     ensures { λ r. ⌜ Figured (V·Algebra .operations) (weights (V·Algebra .operations) (alleles-of (now (costs .entry)))) (seen (now (held .entry)) (length (alleles-of (now (costs .entry)))) (M·Model .classes (now (model .entry)) locus) (M·Model .fitting (now (model .entry)) locus)) locus r ⌝ }
 {
     let site = Site {

@@ -41,7 +41,7 @@ impl Gathered {
 }
 
 // Whether a reading says something.
-pub(crate) fn is_loud(class: Class) -> bool
+pub fn is_loud(class: Class) -> bool
     ensures { λ r. ⌜ r ≡ loud class ⌝ }
 {
     match class {

@@ -7,5 +7,6 @@ mod search;
 mod slots;
 
 pub use components::figure;
+pub use gather::is_loud;
 pub use locus_figure::WideLocus;
 pub use slots::Held;

@@ -50,7 +50,12 @@ impl<M: Model> Site<'_, M> {
     }
 
     // The sum over the alleles of the slots from place `at` of the order on.
-    pub(crate) fn search<V: Algebra>(&self, order: &[usize], at: usize, alleles: [Option<u8>; 64]) -> V
+    pub(crate) fn search<V: Algebra>(
+        &self,
+        order: &[usize],
+        at: usize,
+        alleles: [Option<u8>; 64],
+    ) -> V
         requires { ⌜ Searching (now (now self .held)) (M·Model .fitting (now (now self .model)) (now self .locus)) (now order) at alleles ⌝ }
         requires { ⌜ Inside (now order) (readings-of (told (now (now self .held))) (M·Model .classes (now (now self .model)) (now self .locus)) (M·Model .fitting (now (now self .model)) (now self .locus))) ⌝ }
         requires { ⌜ length (now (now self .costs)) ≤ 16 ⌝ }

@@ -17,10 +17,10 @@ loop-person-again g c =
     let fits = g .M·Model .fitting (c .args .model .now) (c .args .locus) in
     let is = ap loud (sym (c .class .ensures)) ∙ sym (c .is-loud .ensures) in
     elim (c .if-is-loud .came) [
-      then-is-loud w ↦
-        reach-loud (c .args .held .now) class fits (c .loop-person .person) (c .args .slot) (items (c .args .found .now)) (items (c .loop-person .found)) (items (c .if-is-loud .found)) (c .loop-person-test .taken) (is ∙ w .if-is-loud .taken) (c .loop-person .inv) (ap items (w .found-is) ∙ w .follow-link .ensures)
-    | else-is-loud w ↦
-        ap items (w .found-is) ∙ reach-silent (c .args .held .now) class fits (c .loop-person .person) (c .args .slot) (items (c .args .found .now)) (items (c .loop-person .found)) (items (c .loop-person .found)) (is ∙ w .if-is-loud .left) (c .loop-person .inv)
+      | then-is-loud w ↦
+          reach-loud (c .args .held .now) class fits (c .loop-person .person) (c .args .slot) (items (c .args .found .now)) (items (c .loop-person .found)) (items (c .if-is-loud .found)) (c .loop-person-test .taken) (is ∙ w .if-is-loud .taken) (c .loop-person .inv) (ap items (w .found-is) ∙ w .follow-link .ensures)
+      | else-is-loud w ↦
+          ap items (w .found-is) ∙ reach-silent (c .args .held .now) class fits (c .loop-person .person) (c .args .slot) (items (c .args .found .now)) (items (c .loop-person .found)) (items (c .loop-person .found)) (is ∙ w .if-is-loud .left) (c .loop-person .inv)
     ]
 
 pub returns : need.returns

@@ -55,7 +55,7 @@ search-rest-requires g t c κs =
     let fits = g .M·Model .fitting (c .args .self .now .model .now) (c .args .self .now .locus) in
     let size : length (c .args .alleles) ≡ 64 = search needs in
     λ d.
-      (omega arith, (d .0, (d .1, (goes-on h class fits (c .args .order .now) (c .args .at) (c .args .alleles) (c .pre .0) size (omega arith) (c .loop-allele .allele) (sym (c .if-not-admits .ensures tt)), (c .pre .1, c .pre .2)))))
+    (omega arith, (d .0, (d .1, (goes-on h class fits (c .args .order .now) (c .args .at) (c .args .alleles) (c .pre .0) size (omega arith) (c .loop-allele .allele) (sym (c .if-not-admits .ensures tt)), (c .pre .1, c .pre .2)))))
 
 pub loop-allele-again : need.loop-allele-again
 loop-allele-again g t c =

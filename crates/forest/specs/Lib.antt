@@ -1,0 +1,3 @@
+pub mod Entries
+pub mod Hanging
+pub mod Laid
