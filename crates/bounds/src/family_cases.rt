@@ -95,7 +95,7 @@ const CASES: &[Case] = &[
     },
 ];
 
-pub fn entered(founders: usize, children: usize) -> Result<FamilyBuilder, FamilyFault> {
+pub(crate) fn entered(founders: usize, children: usize) -> Result<FamilyBuilder, FamilyFault> {
     let mut builder = FamilyBuilder::new();
     for _ in 0..founders {
         builder.founder()?;
@@ -119,7 +119,7 @@ fn closed_with(founders: usize) -> Result<usize, FamilyFault> {
     Ok(family.count())
 }
 
-pub fn run(rt: &LibcRuntime) -> io::Result<()> {
+pub(crate) fn run(rt: &LibcRuntime) -> io::Result<()> {
     for case in CASES.iter() {
         print_answer(rt, case.name, of_family(answered(case)))?;
     }

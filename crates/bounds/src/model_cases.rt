@@ -160,7 +160,7 @@ fn ask_mask(rt: &LibcRuntime) -> io::Result<()> {
     Ok(())
 }
 
-pub fn run(rt: &LibcRuntime) -> io::Result<()> {
+pub(crate) fn run(rt: &LibcRuntime) -> io::Result<()> {
     ask_panels(rt, 2, AT_TWO_PANELS)?;
     ask_panels(rt, 9, AT_FIRST_ALONE)?;
     ask_panels(rt, 0, AT_SECOND_ALONE)?;

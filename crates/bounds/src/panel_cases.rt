@@ -91,7 +91,7 @@ const CASES: &[Case] = &[
 ];
 
 // A panel of so many loci with one allele each.
-pub fn plain(loci: usize) -> Result<PanelBuilder, ReadingsFault> {
+pub(crate) fn plain(loci: usize) -> Result<PanelBuilder, ReadingsFault> {
     let mut builder = PanelBuilder::new();
     for _ in 0..loci {
         builder.locus(1, &[0])?;
@@ -117,7 +117,7 @@ fn after_a_ninth() -> Result<usize, ReadingsFault> {
 }
 
 // A panel of three loci, with dominant ones from the third on if they begin there.
-pub fn three(dominant: bool) -> Result<PanelBuilder, ReadingsFault> {
+pub(crate) fn three(dominant: bool) -> Result<PanelBuilder, ReadingsFault> {
     let mut builder = PanelBuilder::new();
     builder.locus(3, &[5, 1, 2])?;
     builder.locus(
@@ -161,7 +161,7 @@ fn closed_three() -> Result<Panel, ReadingsFault> {
     three(true)?.close()
 }
 
-pub fn run(rt: &LibcRuntime) -> io::Result<()> {
+pub(crate) fn run(rt: &LibcRuntime) -> io::Result<()> {
     for case in CASES.iter() {
         print_answer(rt, case.name, of_readings(answered(case)))?;
     }

@@ -261,7 +261,7 @@ fn read_large(rt: &LibcRuntime, panel: &PanelBuilder) -> io::Result<()> {
     }
 }
 
-pub fn run(rt: &LibcRuntime) -> io::Result<()> {
+pub(crate) fn run(rt: &LibcRuntime) -> io::Result<()> {
     match three(true) {
         Ok(panel) => read_small(rt, &panel)?,
         Err(fault) => print_refusal(rt, "a panel of 3 loci", fault.refusal())?,

@@ -5,14 +5,14 @@ use refusal::Refusal;
 use std::io;
 use study::ReadingsFault;
 
-pub fn of_family(answer: Result<usize, FamilyFault>) -> Result<usize, Refusal> {
+pub(crate) fn of_family(answer: Result<usize, FamilyFault>) -> Result<usize, Refusal> {
     match answer {
         Ok(number) => Ok(number),
         Err(fault) => Err(fault.refusal()),
     }
 }
 
-pub fn of_readings(answer: Result<usize, ReadingsFault>) -> Result<usize, Refusal> {
+pub(crate) fn of_readings(answer: Result<usize, ReadingsFault>) -> Result<usize, Refusal> {
     match answer {
         Ok(number) => Ok(number),
         Err(fault) => Err(fault.refusal()),
@@ -28,14 +28,14 @@ fn layer_name(layer: Layer) -> &'static str {
     }
 }
 
-pub fn print_refusal(rt: &LibcRuntime, name: &str, refusal: Refusal) -> io::Result<()> {
+pub(crate) fn print_refusal(rt: &LibcRuntime, name: &str, refusal: Refusal) -> io::Result<()> {
     let number = refusal.number;
     let place = refusal.place;
     let layer = layer_name(refusal.layer);
     println!(rt, "{name}: refused {number} {place} {layer}")
 }
 
-pub fn print_answer(
+pub(crate) fn print_answer(
     rt: &LibcRuntime,
     name: &str,
     answer: Result<usize, Refusal>,
@@ -46,7 +46,7 @@ pub fn print_answer(
     }
 }
 
-pub fn print_number(rt: &LibcRuntime, name: &str, number: Option<usize>) -> io::Result<()> {
+pub(crate) fn print_number(rt: &LibcRuntime, name: &str, number: Option<usize>) -> io::Result<()> {
     match number {
         Some(number) => println!(rt, "{name}: {number}"),
         None => println!(rt, "{name}: none"),
