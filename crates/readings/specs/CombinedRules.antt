@@ -1,5 +1,5 @@
 -- The proofs that two panels and a mask keep the rules of a reading model if the models below them do.
-use mathlib.Core.Path.{_≡_, refl, _∙_}
+use mathlib.Core.Path.{_≡_, refl}
 use mathlib.Core.Bool.{Bool, true, false, cond, _&&_, _||_}
 use Prim.Native.Nat.{ℕ, _-_, _≤_, min, max}
 use native.Mathlib.Omega.{arith}

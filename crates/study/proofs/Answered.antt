@@ -1,16 +1,12 @@
 -- What entering a locus answers in each of its cases, by the number that the locus has or would have had. Assumes nothing.
-use mathlib.Core.Path.{_≡_, sym, ap, _∙_}
-use mathlib.Core.Bool.{true, false, _&&_}
+use mathlib.Core.Path.{_≡_}
+use mathlib.Core.Bool.{true, false}
 use mathlib.Core.List.{List}
 use Prim.Native.Nat.{ℕ, _<_, _≤_}
 use native.Mathlib.Omega.{arith}
-use lib.Dec.{leb}
 use lib.ListN.{length}
-use Rattle.std.proofs.shelf.Tests.{cond-true, cond-false, lt-ltb, le-leb, and-from, eq-eqb, ne-eqb, leb-true, and-parts}
 use Rattle.std.proofs.shelf.Ways.{tells}
-use Rattle.std.specs.declared.result.Result.{Result}
 use Rattle.std.specs.declared.result.Result.the-variants.{Ok, Err}
-use Rattle.study.specs.declared.faults.ReadingsFault.{ReadingsFault}
 use Rattle.study.specs.declared.faults.ReadingsFault.the-variants.{Alleles, CostCount, Cost}
 use Rattle.study.specs.Panels.{costs-low}
 use Rattle.study.specs.Building.{locusAnswer}

@@ -1,5 +1,4 @@
 use borrow.Author.Needs.{needs}
-use native.Mathlib.Omega.{arith}
 use Rattle.pedigree.proofs.Entering.{family-lawful}
 use Rattle.study.proofs.tables.has_person.Needs as need
 

@@ -1,5 +1,4 @@
 use borrow.Author.Needs.{needs}
-use mathlib.Core.Path.{sym}
 use Rattle.study.proofs.Memory.{many}
 use Rattle.study.proofs.panels.PanelBuilder.codominants.Needs as need
 

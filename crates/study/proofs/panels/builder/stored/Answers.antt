@@ -1,9 +1,8 @@
-use borrow.Author.Needs.{needs}
 use borrow.Author.Count.{below-more}
 use mathlib.Core.Path.{_≡_, sym, ap, _∙_}
 use mathlib.Core.List.{_++_, _∷_, []}
 use native.Mathlib.Omega.{arith}
-use lib.ListN.{length, getD, take, set}
+use lib.ListN.{length, getD, take}
 use Rattle.std.proofs.shelf.Lists.{length-set, take-more-set, take-more, take-all}
 use Rattle.study.proofs.Memory.{low-all, low-not}
 use Rattle.study.proofs.panels.builder.stored.Needs as need
