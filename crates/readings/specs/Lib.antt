@@ -3,3 +3,5 @@ pub mod Tables
 pub mod Bytes
 pub mod CodominantRules
 pub mod DominantRules
+pub mod Combined
+pub mod CombinedRules

@@ -2,5 +2,7 @@
 pub mod class;
 pub mod codominant;
 pub mod dominant;
+pub mod mask;
 pub mod model;
 mod table;
+pub mod two_panels;
