@@ -88,7 +88,7 @@ pub const CHAINS: &[Chain] = &[
 ];
 
 // The family: past the last two founders the children begin again at the first two.
-pub fn chained(chain: &Chain) -> Result<Family, FamilyFault> {
+pub(crate) fn chained(chain: &Chain) -> Result<Family, FamilyFault> {
     let mut builder = FamilyBuilder::new();
     for _ in 0..chain.founders {
         builder.founder()?;
@@ -105,7 +105,7 @@ pub fn chained(chain: &Chain) -> Result<Family, FamilyFault> {
 }
 
 // The bytes of its persons.
-pub fn bytes_of(chain: &Chain) -> [u8; 64] {
+pub(crate) fn bytes_of(chain: &Chain) -> [u8; 64] {
     let mut bytes = [255; 64];
     for person in 0..64 {
         if person < chain.founders_read || person >= chain.founders {

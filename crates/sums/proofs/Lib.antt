@@ -4,3 +4,4 @@ pub mod Views
 pub mod Searches
 pub mod Powers
 pub mod Parting
+pub mod Masked

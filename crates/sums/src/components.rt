@@ -13,7 +13,7 @@ ghost use Rattle.figures.specs.Graph.{Wide, has};
 ghost use Rattle.sums.specs.Gathering.{items};
 ghost use Rattle.sums.specs.Searching.{pair-of};
 ghost use Rattle.sums.specs.Seen.{told, seen, alleles-of};
-ghost use Rattle.sums.specs.Widths.{Figured, is-several, several-in, too-wide};
+ghost use Rattle.sums.specs.Widths.{Figured, Figured-twice, Carried, Excess-through-mask, is-several, several-in, too-wide};
 use crate::gather::gather;
 use crate::locus_figure::WideLocus;
 use crate::order::Gathered;
@@ -149,6 +149,38 @@ pub fn figure<'a, V: Algebra, M: Model>(
         return Err(WideLocus { locus });
     }
     Ok(site.product())
+}
+
+// The figures of a locus by two algebras: refused as one figure is; every map that carries the first algebra to the second carries the first figure to
+// the second.
+pub fn two_figures<'a, V: Algebra, W: Algebra, M: Model>(
+    held: &'a Held,
+    model: &'a M,
+    locus: usize,
+    costs: &'a [u16],
+) -> Result<(V, W), WideLocus>
+    ensures values { λ r. ⌜ Figured-twice (V·Algebra .operations) (W·Algebra .operations) (weights (V·Algebra .operations) (alleles-of (now (costs .entry)))) (weights (W·Algebra .operations) (alleles-of (now (costs .entry)))) (seen (now (held .entry)) (length (alleles-of (now (costs .entry)))) (M·Model .classes (now (model .entry)) locus) (M·Model .fitting (now (model .entry)) locus)) locus r ⌝ }
+    ensures carried { λ r. ⌜ Carried (V·Algebra .operations) (W·Algebra .operations) r ⌝ }
+{
+    let site = Site {
+        held,
+        model,
+        locus,
+        costs: first_costs(costs),
+    };
+    if !site.is_wide() {
+        let first = site.product();
+        let second = site.product();
+        return Ok((first, second));
+    }
+    Err(WideLocus { locus })
+}
+
+// Through a mask a figure is the unmasked one with the excess of silencing added.
+pub fn masks_add_the_excess<V: Algebra>() -> u8
+    ensures { λ _. ⌜ Excess-through-mask (V·Algebra .operations) ⌝ }
+{
+    0
 }
 
 // The costs of at most 16 alleles.

@@ -7,6 +7,8 @@ mod search;
 mod slots;
 
 pub use components::figure;
+pub use components::masks_add_the_excess;
+pub use components::two_figures;
 pub use gather::is_loud;
 pub use locus_figure::WideLocus;
 pub use slots::Held;
