@@ -8,8 +8,7 @@ use native.Mathlib.Omega.{arith}
 use lib.Dec.{leb}
 use lib.ListN.{length, getD, take, set}
 use Rattle.std.specs.Iters.{counting}
-use Rattle.std.proofs.shelf.Lists.{append-nil, map-id, take-at, take-more, take-more-set}
-use Rattle.std.proofs.shelf.Counted.{map-counting-more}
+use Rattle.std.proofs.shelf.Lists.{append-nil, take-at, take-more, take-more-set}
 use Rattle.std.proofs.shelf.Tests.{and-from, le-leb, cond-true}
 use Rattle.std.specs.declared.option.Option.the-variants.{Some, None}
 use Rattle.algebra.specs.Semiring.{Ops, Laws}
@@ -27,7 +26,7 @@ use Rattle.figures.specs.Figure.{product, fits-all, weights, figure}
 use Rattle.figures.specs.Lists.{fold}
 use Rattle.figures.specs.Locus.{Locus, Reading}
 use Rattle.figures.specs.View.{readings-of, locus-of}
-use Rattle.figures.proofs.Folds.{fold-cong, fold-map, fold-joined, fold-append, fold-kept, neutral-right}
+use Rattle.figures.proofs.Folds.{fold-cong, fold-map, fold-joined, fold-append, fold-counting-more, fold-kept, neutral-right}
 use Rattle.enumeration.specs.Answer.{answer, small, added, sum-after}
 
 module _ {V : Type 0} (o : Ops V) (l : Laws o) where
@@ -39,17 +38,7 @@ module _ {V : Type 0} (o : Ops V) (l : Laws o) where
 
   -- one term more
   pub sum-more : (f : ℕ → V) (i : ℕ) → o .sum (fold (o .zero) (o .sum) (counting 0 i) f) (f i) ≡ fold (o .zero) (o .sum) (counting 0 (i + 1)) f
-  sum-more f i =
-      ap (o .sum (fold (o .zero) (o .sum) (counting 0 i) f)) (sym (neutral-right (l .sums) (f i)))
-      ∙ sym (fold-append (l .sums) (counting 0 i) (i ∷ []) f)
-      ∙ ap (λ is. fold (o .zero) (o .sum) is f) (sym (counting-more i))
-    where
-      plain : (xs : List ℕ) → map (λ x. x) xs ≡ xs
-      plain xs = map-id xs
-
-      counting-more : (n : ℕ) → counting 0 (n + 1) ≡ counting 0 n ++ n ∷ []
-      counting-more n =
-          sym (plain (counting 0 (n + 1))) ∙ map-counting-more (λ x. x) 0 n n (omega arith) ∙ ap (λ xs. xs ++ n ∷ []) (plain (counting 0 n))
+  sum-more f i = sym (fold-counting-more (l .sums) i f)
 
   module _ (w : ℕ → V) (rs : List Reading) (k : ℕ) where
     pub after-all : (front : List ℕ) → sum-after o w rs k 0 front ≡ added o w rs front

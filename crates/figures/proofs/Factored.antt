@@ -33,7 +33,8 @@ not-loud Silent e = refl
 not-loud (Named a b) e = absurd (true≢false e)
 not-loud Several e = absurd (true≢false e)
 
-once-apart : {X : Type 0} (xs ys : List X) → Once (xs ++ ys) → (x : X) → In x xs → In x ys → ⊥
+-- the front and the rest of a list in which nothing stands twice share nothing
+pub once-apart : {X : Type 0} (xs ys : List X) → Once (xs ++ ys) → (x : X) → In x xs → In x ys → ⊥
 once-apart [] ys o x i j = elim i [ ]
 once-apart (z ∷ xs) ys o x (inl e) j = o .0 (in-right z xs ys (subst (λ t. In t ys) e j))
 once-apart (z ∷ xs) ys o x (inr i) j = once-apart xs ys (o .1) x i j

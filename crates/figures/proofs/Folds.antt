@@ -4,7 +4,12 @@ use mathlib.Core.Path.{_≡_, refl, sym, ap, ap₂, fun-ext, _∙_}
 use mathlib.Core.Logic.{_⊎_, inl, inr}
 use mathlib.Core.Bool.{Bool, true, false, cond}
 use mathlib.Core.List.{List, [], _∷_, _++_, map}
+use Prim.Native.Nat.{ℕ, _+_}
+use native.Mathlib.Omega.{arith}
+use Rattle.std.specs.Iters.{counting}
 use Rattle.std.specs.Joined.{joined}
+use Rattle.std.proofs.shelf.Counted.{map-counting-more}
+use Rattle.std.proofs.shelf.Lists.{map-id}
 use Rattle.algebra.specs.Semiring.{Commutative}
 use Rattle.figures.specs.Lists.{fold, kept, In}
 use Rattle.figures.proofs.Perms.{Perm, done, keep, swap, next}
@@ -42,6 +47,12 @@ module _ {V : Type 0} {unit : V} {op : V → V → V} (c : Commutative unit op) 
   pub fold-append : {X : Type 0} (xs ys : List X) (f : X → V) → fold unit op (xs ++ ys) f ≡ op (fold unit op xs f) (fold unit op ys f)
   fold-append [] ys f = sym (c .neutral (fold unit op ys f))
   fold-append (x ∷ xs) ys f = ap (op (f x)) (fold-append xs ys f) ∙ sym (c .assoc (f x) (fold unit op xs f) (fold unit op ys f))
+
+  -- one number more
+  pub fold-counting-more : (n : ℕ) (f : ℕ → V) → fold unit op (counting 0 (n + 1)) f ≡ op (fold unit op (counting 0 n) f) (f n)
+  fold-counting-more n f =
+      ap (λ xs. fold unit op xs f) (sym (map-id (counting 0 (n + 1))) ∙ map-counting-more (λ x. x) 0 n n (omega arith) ∙ ap (λ xs. xs ++ n ∷ []) (map-id (counting 0 n)))
+      ∙ fold-append (counting 0 n) (n ∷ []) f ∙ ap (op (fold unit op (counting 0 n) f)) (neutral-right (f n))
 
   pub fold-joined : {X Y : Type 0} (g : X → List Y) (f : Y → V) (xs : List X) → fold unit op (joined g xs) f ≡ fold unit op xs (λ x. fold unit op (g x) f)
   fold-joined g f [] = refl

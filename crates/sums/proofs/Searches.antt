@@ -12,8 +12,7 @@ use Rattle.std.specs.Iters.{counting}
 use Rattle.std.specs.Options.{isSome, valueOr}
 use Rattle.std.specs.declared.option.Option.{Option}
 use Rattle.std.specs.declared.option.Option.the-variants.{Some, None}
-use Rattle.std.proofs.shelf.Lists.{getD-set-same, getD-set-other, take-more, drop-more, drop-all, take-all, take-append-drop, map-id}
-use Rattle.std.proofs.shelf.Counted.{map-counting-more}
+use Rattle.std.proofs.shelf.Lists.{getD-set-same, getD-set-other, take-more, drop-more, drop-all, take-all, take-append-drop}
 use Rattle.std.proofs.shelf.Tests.{cases-eq, cases-bool, both-ways, true≢false, false≢true, eqb-true, eqb-false, ne-eqb, or-cases, or-parts, or-left, or-from, not-true, not-false, not-from-false}
 use Rattle.algebra.specs.Semiring.{Ops, Laws}
 use Rattle.readings.specs.declared.class.Class.{Class}
@@ -22,8 +21,8 @@ use Rattle.figures.specs.Lists.{fold, every, In, Once}
 use Rattle.figures.specs.Locus.{Reading, loud}
 use Rattle.figures.specs.Graph.{own}
 use Rattle.figures.specs.View.{reading-of, readings-of}
-use Rattle.figures.proofs.Factored.{own-in, in-own, not-loud}
-use Rattle.figures.proofs.Folds.{fold-append, neutral-right}
+use Rattle.figures.proofs.Factored.{own-in, in-own, not-loud, once-apart}
+use Rattle.figures.proofs.Folds.{fold-counting-more, neutral-right}
 use Rattle.figures.proofs.Members.{in-left, in-right, in-append, in-counting, counting-in, every-from, every-not, every-at}
 use Rattle.figures.proofs.Placed.{fits-at}
 use Rattle.figures.proofs.Searched.{searched, searched-dead}
@@ -59,11 +58,6 @@ disagree : (fit : ℕ → ℕ → Bool) (x y : Option ℕ) → agrees fit x y �
 disagree fit (Some a) (Some b) e = (refl, refl)
 disagree fit (Some a) None e = absurd (true≢false e)
 disagree fit None y e = absurd (true≢false e)
-
-once-parts : {X : Type 0} (x : X) (xs ys : List X) → Once (xs ++ ys) → In x xs → In x ys → ⊥
-once-parts x [] ys o i j = elim i [ ]
-once-parts x (z ∷ xs) ys o (inl e) j = o .0 (in-right z xs ys (subst (λ t. In t ys) e j))
-once-parts x (z ∷ xs) ys o (inr i) j = once-parts x xs ys (o .1) i j
 
 -- a test that does not pass everywhere fails somewhere
 some-fails : {X : Type 0} (f : X → Bool) (xs : List X) → every f xs ≡ false → (x : X) × In x xs × (f x ≡ false)
@@ -168,7 +162,7 @@ module _ (h : Held) (class : ℕ → Class) (fits : ℕ → ℕ → ℕ → Bool
             (env new) broken
           where
             apart : (t : ℕ) → In t (take (at + 1) order) → In t (drop (at + 1) order) → ⊥
-            apart t x y = once-parts t (take (at + 1) order) (drop (at + 1) order) (subst Once (sym (take-append-drop (at + 1) order)) (s .once)) x y
+            apart t x y = once-apart (take (at + 1) order) (drop (at + 1) order) (subst Once (sym (take-append-drop (at + 1) order)) (s .once)) t x y
 
             fails : (p : ℕ) → p < h .persons → In (pair-of h p .0) order → (σ : ℕ → ℕ) → fits p (σ (pair-of h p .0)) (σ (pair-of h p .1)) ≡ false → fits-order order (readings-of (told h) class fits) σ ≡ false
             fails p l j σ d =
@@ -189,11 +183,7 @@ part o k w test order at ρ a = o .product (w a) (searched o k w test (drop (at 
 module _ {V : Type 0} (o : Ops V) (l : Laws o) (k : ℕ) (w : ℕ → V) (test : (ℕ → ℕ) → Bool) (order : List ℕ) (at : ℕ) (ρ : ℕ → ℕ) where
   pub part-more : (total next : V) (a : ℕ) → total ≡ fold (o .zero) (o .sum) (counting 0 a) (part o k w test order at ρ) → next ≡ o .sum total (part o k w test order at ρ a) → next ≡ fold (o .zero) (o .sum) (counting 0 (a + 1)) (part o k w test order at ρ)
   part-more total next a p q =
-      q ∙ ap₂ (o .sum) p (sym (neutral-right (l .sums) (part o k w test order at ρ a))) ∙ sym (fold-append (l .sums) (counting 0 a) (a ∷ []) (part o k w test order at ρ))
-      ∙ ap (λ xs. fold (o .zero) (o .sum) xs (part o k w test order at ρ)) (sym (counting-more a))
-    where
-      counting-more : (n : ℕ) → counting 0 (n + 1) ≡ counting 0 n ++ n ∷ []
-      counting-more n = sym (map-id (counting 0 (n + 1))) ∙ map-counting-more (λ x. x) 0 n n (omega arith) ∙ ap (λ xs. xs ++ n ∷ []) (map-id (counting 0 n))
+      q ∙ ap (λ x. o .sum x (part o k w test order at ρ a)) p ∙ sym (fold-counting-more (l .sums) a (part o k w test order at ρ))
 
   pub part-none : (total : V) (a : ℕ) → total ≡ fold (o .zero) (o .sum) (counting 0 a) (part o k w test order at ρ) → searched o k w test (drop (at + 1) order) (update ρ (getD order at 0) a) ≡ o .zero → total ≡ fold (o .zero) (o .sum) (counting 0 (a + 1)) (part o k w test order at ρ)
   part-none total a p e =
