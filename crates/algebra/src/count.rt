@@ -27,6 +27,6 @@ pub impl Algebra for Count as CountAlgebra {
     }
 
     fn weight(_cost: u16) -> Count {
-        Count { number: 1 }
+        CountAlgebra::one()
     }
 }

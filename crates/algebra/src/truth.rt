@@ -27,6 +27,6 @@ pub impl Algebra for Truth as TruthAlgebra {
     }
 
     fn weight(_cost: u16) -> Truth {
-        Truth { yes: true }
+        TruthAlgebra::one()
     }
 }

@@ -78,7 +78,7 @@ allele-at [] ρ s = 0
 allele-at (t ∷ ts) [] s = 0
 allele-at (t ∷ ts) (a ∷ ρ) s = let rest = allele-at ts ρ s in cond (eqb s t) a rest
 
--- the readings that are not silent and have their slots in the list
+-- the readings that are not silent and have their maternal slot in the list; in a component both slots are then
 abbrev pub own : List ℕ → List Reading → List Reading
 own ss rs = kept (λ r. loud (r .class) && has ss (r .ends .0)) rs
 

@@ -30,7 +30,7 @@ abbrev pub Excess-added : {V : Type 0} → Ops V → Type 0
 Excess-added {V} o =
     (w : ℕ → V) (S : ℕ → Bool) (L : Locus) → figure o w (silenced S L) ≡ o .sum (figure o w L) (excess o w S L)
 
--- slots whose links stay among them fall into one number of components, and no second number
+-- the slots below any number, under any links, fall into one number of components, and no second number
 abbrev pub Parts-settled : Type 0
 Parts-settled =
     (n : ℕ) (ls : List (ℕ × ℕ)) → ((c : ℕ) × Parts n ls c) × ((c d : ℕ) → Parts n ls c → Parts n ls d → c ≡ d)
@@ -39,6 +39,10 @@ Parts-settled =
 abbrev pub Figures-factored : {V : Type 0} → Ops V → Type 0
 Figures-factored {V} o =
     (w : ℕ → V) (L : Locus) → Sound L → (cs : List (List ℕ)) → Components L cs → figure o w L ≡ fold (o .one) (o .product) cs (component-sum o w L)
+
+-- every locus has its components
+abbrev pub Components-stand : Type 0
+Components-stand = (L : Locus) → (cs : List (List ℕ)) × Components L cs
 
 -- a component that has a link and only named readings has at most two fitting assignments
 abbrev pub Two-at-most : Type 0

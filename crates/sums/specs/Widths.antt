@@ -29,7 +29,7 @@ is-several Silent = false
 is-several (Named a b) = false
 is-several Several = true
 
--- a person whose reading is of class several has its slots in the list
+-- a person whose reading is of class several has its maternal slot in the list; in a component both slots are then
 abbrev pub several-in : Held → (ℕ → Class) → List ℕ → Bool
 several-in h class ss = some-passes (λ p. is-several (class p) && has ss (pair-of h p .0)) (counting 0 (h .persons))
 

@@ -1,15 +1,16 @@
 // The components of a locus one after the other: their width, and the product of their sums.
 ghost use mathlib.Core.Path.{_≡_};
 ghost use mathlib.Core.Bool.{false, _&&_, _||_};
-ghost use Prim.Native.Nat.{ℕ, _*_, _^_, _≤_, _<_};
+ghost use mathlib.Core.List.{_++_};
+ghost use Prim.Native.Nat.{ℕ, _-_, _*_, _^_, _≤_, _<_};
 ghost use lib.Dec.{ltb};
-ghost use lib.ListN.{length, getD};
+ghost use lib.ListN.{length, getD, replicate};
 ghost use Rattle.std.specs.Orderings.{When};
 ghost use Rattle.pedigree.specs.Building.{persons-of};
 ghost use Rattle.pedigree.specs.Families.{foundersIn};
 ghost use Rattle.pedigree.specs.Slots.{slotsOf};
 ghost use Rattle.figures.specs.Figure.{weights, figure as figure-of};
-ghost use Rattle.figures.specs.Graph.{Wide, has};
+ghost use Rattle.figures.specs.Graph.{Wide, Sound, has};
 ghost use Rattle.sums.specs.Gathering.{items};
 ghost use Rattle.sums.specs.Searching.{pair-of};
 ghost use Rattle.sums.specs.Seen.{told, seen, alleles-of};
@@ -178,7 +179,16 @@ pub fn two_figures<'a, V: Algebra, W: Algebra, M: Model>(
 
 // Through a mask a figure is the unmasked one with the excess of silencing added.
 pub fn masks_add_the_excess<V: Algebra>() -> u8
-    ensures { λ _. ⌜ Excess-through-mask (V·Algebra .operations) ⌝ }
+    ensures holds { λ _. ⌜ Excess-through-mask (V·Algebra .operations) ⌝ }
+    ensures value { λ r. ⌜ r ≡ 0 ⌝ }
+{
+    0
+}
+
+// The locus that any model gives is one for which the theorems about components hold.
+pub fn models_give_sound_loci<M: Model>() -> u8
+    ensures holds { λ _. ⌜ ((m : M) (h : Held) (k locus : ℕ) → Sound (seen h k (M·Model .classes m locus) (M·Model .fitting m locus))) ⌝ }
+    ensures value { λ r. ⌜ r ≡ 0 ⌝ }
 {
     0
 }
@@ -199,6 +209,8 @@ impl Held {
     pub fn of(family: &Family, bits: &[Meiosis; 64]) -> Held
         ensures told { λ r. ⌜ told r ≡ slotsOf (persons-of (now (family .entry))) (now (bits .entry)) ⌝ }
         ensures slots { λ r. ⌜ r .slots ≡ 2 * foundersIn (persons-of (now (family .entry))) ⌝ }
+        ensures persons { λ r. ⌜ r .persons ≡ length (persons-of (now (family .entry))) ⌝ }
+        ensures pairs { λ r. ⌜ r .pairs ≡ slotsOf (persons-of (now (family .entry))) (now (bits .entry)) ++ replicate (64 - length (persons-of (now (family .entry)))) (0, 0) ⌝ }
     {
         Held {
             pairs: family.all_slots(bits),

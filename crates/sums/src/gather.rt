@@ -1,4 +1,4 @@
-// The slots of a component, in an order in which each slot after the first is linked to an earlier one.
+// The slots of a component, in the order in which links reach them from the first.
 ghost use mathlib.Core.Path.{_≡_};
 ghost use mathlib.Core.List.{[], _∷_};
 ghost use Prim.Native.Nat.{_<_};

@@ -36,4 +36,6 @@ returns c =
           ap₂ take (c .count .ensures) (c .all-slots .ensures .value)
           ∙ take-at (slotsOf (persons-of f) (c .args .bits .now)) _ (length (persons-of f)) (descent-stands (persons-of f) (c .args .bits .now) (family-lawful f .2) .0 .all);
       slots = c .slot-count .ensures;
+      persons = c .count .ensures;
+      pairs = c .all-slots .ensures .value;
     }
