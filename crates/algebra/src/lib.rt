@@ -1,4 +1,6 @@
 // Commutative semirings with weights: what founder alleles are summed in. Truth, count, least cost, and best cost with its number.
+#![tactic(auto)]
+
 mod best;
 mod count;
 mod least;

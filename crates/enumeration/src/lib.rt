@@ -1,4 +1,6 @@
 // The figure of a small locus by its definition: every assignment is tried.
+#![tactic(auto)]
+
 ghost use Rattle.std.specs.Prelude.{◌≡◌, ◌-◌, ◌≤◌, length, take, slice_index};
 ghost use Rattle.pedigree.specs.Building.{persons_of};
 ghost use Rattle.pedigree.specs.Slots.{SlotsBelow};

@@ -1,5 +1,7 @@
 // Works out families whose figures are known by hand, and prints a line for each: its name, how many assignments of founder alleles fit its readings,
 // the least cost, the best cost with its number, and the number of components.
+#![tactic(auto)]
+
 mod cases;
 mod chains;
 mod figures_line;

@@ -1,4 +1,6 @@
 // The rules of the founder-allele sums, and the theorems about them. Each function here states one theorem by its contract.
+#![tactic(auto)]
+
 ghost use Rattle.std.specs.Prelude.{◌≡◌};
 ghost use Rattle.figures.specs.CheckFamilies.{RowsHold};
 ghost use Rattle.figures.specs.Statements.{Listed, FiguresCarried, ExcessAdded, PartsSettled, FiguresFactored, ComponentsStand, TwoAtMost};

@@ -1,5 +1,7 @@
 // The links of the persons laid so far, and the components into which they tie the founder slots. Persons are laid in their order, and can be taken
 // back from the last one on.
+#![tactic(auto)]
+
 pub mod trees;
 
 pub use trees::Forest;

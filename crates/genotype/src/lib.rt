@@ -1,4 +1,6 @@
 // Genotype codes: one number for each unordered pair of alleles, in the genotype order of VCF files.
+#![tactic(auto)]
+
 ghost use Rattle.std.specs.Prelude.{◌≡◌, ◌<◌, ◌≤◌, min, max, Some, MatchOption};
 ghost use Rattle.genotype.specs.Codes.{code_of, pair_of};
 

@@ -1,4 +1,6 @@
 // The founder-allele graph of a locus: the links of all persons whose reading is not silent, laid in a forest.
+#![tactic(auto)]
+
 ghost use Rattle.std.specs.Prelude.{◌≡◌};
 ghost use Rattle.forest.specs.Laid.{laid};
 ghost use Rattle.figures.specs.Graph.{Parts, links};

@@ -1,4 +1,6 @@
 // Families, their builder, and the founder slots that each person holds under the meiosis bits of a locus.
+#![tactic(auto)]
+
 pub mod families;
 pub mod faults;
 pub mod persons;

@@ -1,4 +1,6 @@
 // Readings: what is known of a person's genotype at a locus, and the models that answer for it.
+#![tactic(auto)]
+
 pub mod class;
 pub mod codominant;
 pub mod dominant;

@@ -1,4 +1,5 @@
 // What every refusal tells, whichever layer refuses.
+#![tactic(auto)]
 
 // The layer that refuses a call.
 #[derive(Clone, Copy, PartialEq, Eq, Debug)]

@@ -1,4 +1,6 @@
 // The panel of a study and its reading tables: loci with the costs of their alleles, and the bytes read of each person at each locus.
+#![tactic(auto)]
+
 pub mod faults;
 mod loci;
 pub mod panels;

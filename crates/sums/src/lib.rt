@@ -1,4 +1,6 @@
 // The figure of a locus, worked out component by component.
+#![tactic(auto)]
+
 mod components;
 mod gather;
 mod locus_figure;
