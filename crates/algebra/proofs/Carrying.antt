@@ -1,8 +1,8 @@
 -- The maps from counts to truth and from the best to least costs carry zero, one, sums, products and weights.
 -- Assumes nothing.
-use Rattle.std.proofs.Common.{◌≡◌, ℕ, zero, suc, ◌+◌, ◌*◌, ◌<◌, ◌≤◌, min, Bool, true, false, ◌&&◌, ◌||◌, ltb, ◌⊎◌, sym, refl, ap, ◌∙◌, inl, inr, mul-pos, mul-zero, zero-mul, arith}
-use Rattle.std.proofs.lemmas.Bool.{lt-ltb, le-ltb}
-use Rattle.algebra.specs.Best.{best_ops, ranked}
+use Rattle.std.proofs.Common.{◌≡◌, ℕ, zero, suc, ◌+◌, ◌*◌, ◌<◌, min, false, ◌&&◌, ◌||◌, ltb, sym, refl, ap, ◌∙◌, mul-pos, mul-zero, zero-mul, arith}
+use Rattle.std.proofs.lemmas.Bool.{lt-ltb}
+use Rattle.algebra.specs.Best.{best_ops}
 use Rattle.algebra.specs.Carried.{any_of, least_of}
 use Rattle.algebra.specs.Count.{count_ops}
 use Rattle.algebra.specs.Least.{costing, least_ops}

@@ -1,6 +1,6 @@
 -- The algebra of the best: the least cost with how many reach it.
 -- Assumes nothing.
-use Rattle.std.specs.Prelude.{◌≡◌, ℕ, ◌+◌, ◌*◌, ◌≤◌, min, Bool, cond, ◌&&◌, ◌==◌}
+use Rattle.std.specs.Prelude.{ℕ, ◌+◌, ◌*◌, min, cond, ◌==◌}
 use Rattle.algebra.specs.Semiring.{Ops}
 use Rattle.algebra.specs.declared.values.Best.{Best}
 use Rattle.algebra.specs.Ranks.{exists, rank_capped, rank_counted, rank_reached}

@@ -8,7 +8,7 @@ use Rattle.algebra.specs.Semiring.{Laws}
 use Rattle.algebra.specs.Best.{ranked, reaching, best_ops}
 use Rattle.algebra.specs.declared.values.Best.{Best}
 use Rattle.algebra.specs.Same.{same_best}
-use Rattle.algebra.specs.Caps.{cut, cut_sum, cut_assoc, cut_product_assoc, cut_distributes}
+use Rattle.algebra.specs.Caps.{cut, cut_assoc, cut_product_assoc, cut_distributes}
 use Rattle.algebra.specs.BestSums.{live, dead, ranked_live, ranked_dead, reaching_own, reaching_less, sum_is, product_is, reaching_sum, reaching_product}
 
 sum_assoc : (x y z : Best) → best_ops.sum (best_ops.sum x y) z ≡ best_ops.sum x (best_ops.sum y z)

@@ -1,9 +1,9 @@
 -- What the sum and the product of two bests cost, and how often they reach it.
 -- Assumes nothing.
-use Rattle.std.specs.Prelude.{◌≡◌, ℕ, ◌+◌, ◌*◌, ◌<◌, ◌≤◌, min, Bool, true, false, cond, ◌&&◌, ◌⊎◌, ◌==◌, nat_lt, refl}
+use Rattle.std.specs.Prelude.{◌≡◌, ℕ, ◌+◌, ◌*◌, ◌<◌, ◌≤◌, min, true, false, cond, ◌⊎◌, ◌==◌, nat_lt}
 use Rattle.std.proofs.Common.{sym, ap, ap₂, ◌∙◌, inl, inr, mul-zero, mul-pos, arith}
 use Rattle.std.proofs.Math.Nat.{min-eq_left, min-eq_right}
-use Rattle.std.proofs.lemmas.Bool.{cases_lt, cases_eq, cond-true, cond-false, and_from, and_left, lt-ltb, le-ltb, eq-eqb, ne_eqb, eqb-true, eqb-false, ltb-true}
+use Rattle.std.proofs.lemmas.Bool.{cases_lt, cond-true, cond-false, and_from, and_left, lt-ltb, le-ltb, eq-eqb, ne_eqb, eqb-true}
 use Rattle.algebra.specs.Best.{ranked, reaching, best_ops}
 use Rattle.algebra.specs.Ranks.{exists}
 use Rattle.algebra.specs.declared.values.Best.{Best}

@@ -1,6 +1,5 @@
 -- The algebra of counts keeps the laws.
 -- Assumes nothing.
-use Rattle.std.specs.Prelude.{◌≡◌, ℕ, ◌+◌, ◌*◌}
 use Rattle.std.proofs.Common.{ap, add_comm, mul_comm, arith}
 use Rattle.algebra.specs.Semiring.{Laws}
 use Rattle.algebra.specs.Count.{counted, count_ops}

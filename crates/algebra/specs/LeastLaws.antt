@@ -1,6 +1,5 @@
 -- The algebra of least costs keeps the laws.
 -- Assumes nothing.
-use Rattle.std.specs.Prelude.{◌≡◌}
 use Rattle.std.proofs.Common.{ap, add_comm, arith}
 use Rattle.std.proofs.Math.Nat.{min_comm}
 use Rattle.algebra.specs.Semiring.{Laws}

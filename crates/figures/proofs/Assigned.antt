@@ -1,6 +1,6 @@
 -- The assignments listed are exactly those of n alleles below k, and none is listed twice.
 -- Assumes nothing.
-use Rattle.std.proofs.Common.{◌≡◌, ℕ, zero, suc, ◌<◌, ◌⊎◌, ◌↔◌, List, [], ◌∷◌, map, length, sym, refl, ap, ◌∙◌, inl, inr, arith}
+use Rattle.std.proofs.Common.{◌≡◌, ℕ, zero, suc, ◌<◌, List, [], ◌∷◌, map, length, refl, ap, inl, inr, arith}
 use Rattle.std.specs.List.{range_with_len, AllByRecursion as All}
 use Rattle.figures.specs.Lists.{In, Once}
 use Rattle.figures.specs.Assignments.{assignments}

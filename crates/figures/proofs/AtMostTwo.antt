@@ -1,10 +1,10 @@
 -- A component that has a link and only named readings has at most two fitting assignments: one allele settles all others.
 -- Assumes nothing.
-use Rattle.std.proofs.Common.{◌≡◌, ℕ, ◌<◌, ◌≤◌, min, max, Bool, true, false, cond, ◌&&◌, eqb, ◌⊎◌, List, [], ◌∷◌, length, sym, refl, ap, ◌∙◌, subst, ap₂, inl, inr, arith}
+use Rattle.std.proofs.Common.{◌≡◌, ℕ, ◌<◌, ◌≤◌, min, max, true, cond, ◌&&◌, eqb, ◌⊎◌, List, [], ◌∷◌, length, sym, refl, ◌∙◌, subst, ap₂, inl, inr, arith}
 use Rattle.std.proofs.lemmas.Bool.{and_parts, cases_lt, cond-true, cond-false, eq-eqb, ne_eqb, eqb-true, false≢true}
 use Rattle.readings.specs.declared.class.Class.{Class}
 use Rattle.readings.specs.declared.class.Class.TheVariants.{Silent, Named, Several}
-use Rattle.figures.specs.Lists.{every, kept, In, Once}
+use Rattle.figures.specs.Lists.{kept, In, Once}
 use Rattle.figures.specs.Assignments.{assignments}
 use Rattle.figures.specs.Locus.{Locus, Reading, loud}
 use Rattle.figures.specs.Graph.{Chain, same, link, back, join, Component, Sound, links, own, allele_at, fits_own}

@@ -1,6 +1,6 @@
 -- A map that carries one algebra to another carries figures.
 -- Assumes nothing.
-use Rattle.std.proofs.Common.{◌≡◌, ℕ, zero, suc, ◌≤◌, List, [], ◌∷◌, get_or, arith}
+use Rattle.std.proofs.Common.{ℕ, zero, suc, ◌≤◌, List, [], ◌∷◌, get_or, arith}
 use Rattle.std.specs.List.{AllByRecursion as All}
 use Rattle.algebra.specs.Semiring.{Ops}
 use Rattle.figures.specs.Assignments.{assignments}

@@ -1,6 +1,6 @@
 -- The figure of a locus is the product of the sums of its components.
 -- Assumes nothing.
-use Rattle.std.proofs.Common.{◌≡◌, ℕ, ◌<◌, Bool, true, false, cond, ◌&&◌, ◌⊎◌, List, [], ◌∷◌, ◌++◌, sym, refl, ap, ◌∙◌, subst, ap₂, inl, inr, arith}
+use Rattle.std.proofs.Common.{◌≡◌, ℕ, Bool, true, false, cond, ◌&&◌, ◌⊎◌, List, [], ◌∷◌, ◌++◌, sym, refl, ap, ◌∙◌, subst, ap₂, inl, inr, arith}
 use Rattle.std.specs.List.{range_with_len, flat_map}
 use Rattle.std.proofs.lemmas.Bool.{and_parts, and_from, cases_Bool, true≢false}
 use Rattle.algebra.specs.Semiring.{Ops, Laws}
@@ -9,12 +9,12 @@ use Rattle.readings.specs.declared.class.Class.TheVariants.{Silent, Named, Sever
 use Rattle.figures.specs.Lists.{fold, every, In, Once}
 use Rattle.figures.specs.Locus.{Locus, Reading, loud}
 use Rattle.figures.specs.Figure.{figure}
-use Rattle.figures.specs.Graph.{Chain, join, link, Component, Components, Sound, links, has, own, component_sum}
+use Rattle.figures.specs.Graph.{join, link, Component, Components, Sound, links, has, own, component_sum}
 use Rattle.figures.specs.Statements.{FiguresFactored}
 use Rattle.figures.proofs.Folds.{fold_cong_in, fold_joined, fold_perm}
-use Rattle.figures.proofs.Members.{in_left, in_right, in_joined, joined_in, in_map, in_kept, kept_in, in_counting, counting_in, once_counting, every_from, every_at, has_in, in_has}
+use Rattle.figures.proofs.Members.{in_left, in_right, joined_in, in_map, in_kept, kept_in, in_counting, counting_in, once_counting, every_from, every_at, has_in, in_has}
 use Rattle.figures.proofs.Perms.{Perm, same_members}
-use Rattle.figures.proofs.SlotSums.{update, update_other, sum_slots, sum_cong, sum_perm, sum_factors, Local, Disjoint, absorbs_right}
+use Rattle.figures.proofs.SlotSums.{update_other, sum_cong, sum_perm, sum_factors, Local, Disjoint, absorbs_right}
 use Rattle.figures.proofs.Placed.{fits_at, term_of, figure_summed, component_summed}
 
 pub same_truth : (a b : Bool) → (a ≡ true → b ≡ true) → (b ≡ true → a ≡ true) → a ≡ b

@@ -1,7 +1,7 @@
 -- The name of a slot is the lowest slot that links join it to: two slots have one name exactly if a chain joins them.
 -- Assumes nothing.
 use Rattle.std.proofs.Common.{◌≡◌, ℕ, ◌<◌, ◌≤◌, min, max, Bool, true, false, cond, eqb, ◌⊎◌, List, [], ◌∷◌, sym, refl, ap, ◌∙◌, subst, inl, inr, arith}
-use Rattle.std.proofs.lemmas.Bool.{eqb-true, eqb-false, eq-eqb, cases_lt}
+use Rattle.std.proofs.lemmas.Bool.{eqb-true, eqb-false, cases_lt}
 use Rattle.figures.specs.Lists.{In}
 use Rattle.figures.specs.Graph.{Chain, same, link, back, join}
 

@@ -1,6 +1,6 @@
 -- Lists with the same elements in another order.
 -- Assumes nothing.
-use Rattle.std.proofs.Common.{◌≡◌, ◌⊎◌, List, [], ◌∷◌, sym, refl, ◌∙◌, subst, inl, inr}
+use Rattle.std.proofs.Common.{◌≡◌, ◌⊎◌, List, [], ◌∷◌, refl, subst, inl, inr}
 use Rattle.figures.specs.Lists.{In, Once}
 use Rattle.figures.proofs.Members.{without, in_without, in_whole, not_left, once_without}
 

@@ -1,12 +1,12 @@
 -- The sum over listed assignments of some slots is the sum over their alleles, one slot after the other.
 -- Assumes nothing.
-use Rattle.std.proofs.Common.{◌≡◌, ℕ, zero, suc, ◌+◌, ◌<◌, ◌≤◌, Bool, true, false, cond, ◌&&◌, eqb, ◌⊎◌, List, [], ◌∷◌, map, length, get_or, sym, refl, ap, ◌∙◌, subst, ap₂, inl, inr, arith}
+use Rattle.std.proofs.Common.{◌≡◌, ℕ, zero, suc, ◌+◌, ◌<◌, Bool, true, cond, ◌&&◌, eqb, ◌⊎◌, List, [], ◌∷◌, map, length, get_or, sym, refl, ap, ◌∙◌, ap₂, inl, inr, arith}
 use mathlib.Core.Path.{fun_ext}
 use Rattle.std.specs.List.{range_with_len}
 use Rattle.std.proofs.lemmas.List.FromFn.{length-range_with_len, fill_by_all}
 use Rattle.std.proofs.lemmas.Bool.{cases_eq, eq-eqb, ne_eqb, cond-true, cond-false}
 use Rattle.algebra.specs.Semiring.{Ops, Laws}
-use Rattle.figures.specs.Lists.{fold, every, kept, In, Once}
+use Rattle.figures.specs.Lists.{fold, every, In, Once}
 use Rattle.figures.specs.Assignments.{assignments}
 use Rattle.figures.specs.Locus.{Locus, Reading}
 use Rattle.figures.specs.Figure.{product, fits_all, figure}

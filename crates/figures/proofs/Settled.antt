@@ -4,8 +4,7 @@ use Rattle.std.proofs.Common.{◌≡◌, ℕ, ◌<◌, ◌≤◌, Bool, eqb, Lis
 use Rattle.std.specs.List.{range_with_len, flat_map}
 use Rattle.std.proofs.lemmas.Bool.{eqb-true, eq-eqb}
 use Rattle.figures.specs.Lists.{kept, In, Once}
-use Rattle.figures.specs.Graph.{Chain, Component, Components, Parts, links, back, join}
-use Rattle.figures.specs.Locus.{Locus}
+use Rattle.figures.specs.Graph.{Chain, Component, Parts, links, back, join}
 use Rattle.figures.specs.Statements.{ComponentsStand, PartsSettled}
 use Rattle.figures.proofs.Members.{map_in, in_joined, once_joined, in_kept, kept_in, once_kept, in_counting, counting_in, once_counting, no_more}
 use Rattle.figures.proofs.Names.{name, name_le, name_chain, name_own, chain_name, same_name_chain}

@@ -1,11 +1,10 @@
 -- Silencing persons adds exactly the excess.
 -- Assumes nothing.
 use Rattle.std.proofs.Common.{◌≡◌, ℕ, Bool, true, false, cond, not, ◌&&◌, ◌||◌, List, [], ◌∷◌, map, sym, refl, ap, ◌∙◌}
-use mathlib.Core.Path.{fun_ext}
 use Rattle.algebra.specs.Semiring.{Ops, Laws}
-use Rattle.figures.specs.Lists.{fold, every, some_passes, kept}
+use Rattle.figures.specs.Lists.{every, some_passes}
 use Rattle.figures.specs.Assignments.{assignments}
-use Rattle.figures.specs.Locus.{Locus, Reading, silence}
+use Rattle.figures.specs.Locus.{Reading, silence}
 use Rattle.figures.specs.Figure.{fits, fits_all, fits_others, breaks, product}
 use Rattle.figures.specs.Statements.{ExcessAdded}
 use Rattle.figures.proofs.Folds.{fold_map, fold_kept, fold_both, fold_cong, neutral_right}

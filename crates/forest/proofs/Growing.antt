@@ -68,7 +68,7 @@ module _ (entries : List (Option (ℕ × ℕ))) (hung : List (Option ℕ)) (coun
 
 -- what a memory keeps, all together
 abbrev pub Memory : List ℕ → List (Option (ℕ × ℕ)) → List (Option ℕ) → ℕ → Type 0
-Memory parent entries hung count = Kept entries hung count × (Grown parent entries count × (Undone entries hung count × Unit {0}))
+Memory parent entries hung count = record { kept : Kept entries hung count; grown : Grown parent entries count; undone : Undone entries hung count }
 
 module _ (f : Forest) (n : ℕ) (e : Option (ℕ × ℕ)) (h : Option ℕ) (room : f.count < 64) (more : n ≡ f.count + 1) where
   before : List (ℕ × ℕ)
@@ -78,10 +78,11 @@ module _ (f : Forest) (n : ℕ) (e : Option (ℕ × ℕ)) (h : Option ℕ) (room
   pub memory_none : e ≡ None → h ≡ None → Memory f.parent (set f.entries f.count e) (set f.hung f.count h) n
   unfolding before
   memory_none none nothing =
-      let same : newest (laid f ++ e ∷ []) ≡ before = ap (λ d. newest (laid f ++ d ∷ [])) none ∙ newest_none (laid f) in (
-        kept_more f.entries f.hung f.count n e h f.kept room more (ap (every in_range) same ∙ f.kept.3),
-        (f.grown ∙ ap parents (sym (ap newest (entries_more f.entries f.hung f.count n e h f.kept room more) ∙ same)), (undone_more f.entries f.hung f.count n e h f.kept room more (nothing ∙ ap (hung_by before) (sym none)) f.undone, tt)),
-      )
+      let same : newest (laid f ++ e ∷ []) ≡ before = ap (λ d. newest (laid f ++ d ∷ [])) none ∙ newest_none (laid f) in record {
+        kept = kept_more f.entries f.hung f.count n e h f.kept room more (ap (every in_range) same ∙ f.kept.3);
+        grown = f.grown ∙ ap parents (sym (ap newest (entries_more f.entries f.hung f.count n e h f.kept room more) ∙ same));
+        undone = undone_more f.entries f.hung f.count n e h f.kept room more (nothing ∙ ap (hung_by before) (sym none)) f.undone;
+      }
 
   -- one person more who links two slots: the higher of their roots is hung under the lower
   pub memory_some : (l : ℕ × ℕ) (x y high low : ℕ) → in_range l ≡ true → x ≡ name (newest (laid f)) l.0 → y ≡ name (newest (laid f)) l.1 → high ≡ max x y → low ≡ min x y → e ≡ Some l → h ≡ Some (max x y) → Memory (set f.parent high low) (set f.entries f.count e) (set f.hung f.count h) n
@@ -89,15 +90,20 @@ module _ (f : Forest) (n : ℕ) (e : Option (ℕ × ℕ)) (h : Option ℕ) (room
   memory_some l x y high low range p q up down some root =
       let first : newest (laid f ++ e ∷ []) ≡ l ∷ before = ap (λ d. newest (laid f ++ d ∷ [])) some ∙ newest_some (laid f) l in
       let top : high ≡ max (name before l.0) (name before l.1) = up ∙ ap₂ max p q in
-      let bottom : low ≡ min (name before l.0) (name before l.1) = down ∙ ap₂ min p q in (
-        kept_more f.entries f.hung f.count n e h f.kept room more (ap (every in_range) first ∙ and_from (in_range l) (every in_range before) range f.kept.3),
-        (ap₂ (set f.parent) top bottom ∙ ap (λ ps. set ps (max (name before l.0) (name before l.1)) (min (name before l.0) (name before l.1))) f.grown ∙ ap parents (sym (ap newest (entries_more f.entries f.hung f.count n e h f.kept room more) ∙ first)), (undone_more f.entries f.hung f.count n e h f.kept room more (root ∙ ap Some (ap₂ max p q) ∙ ap (hung_by before) (sym some)) f.undone, tt)),
-      )
+      let bottom : low ≡ min (name before l.0) (name before l.1) = down ∙ ap₂ min p q in record {
+        kept = kept_more f.entries f.hung f.count n e h f.kept room more (ap (every in_range) first ∙ and_from (in_range l) (every in_range before) range f.kept.3);
+        grown =
+            ap₂ (set f.parent) top bottom
+            ∙ ap (λ ps. set ps (max (name before l.0) (name before l.1)) (min (name before l.0) (name before l.1))) f.grown
+            ∙ ap parents (sym (ap newest (entries_more f.entries f.hung f.count n e h f.kept room more) ∙ first));
+        undone = undone_more f.entries f.hung f.count n e h f.kept room more (root ∙ ap Some (ap₂ max p q) ∙ ap (hung_by before) (sym some)) f.undone;
+      }
 
 -- nobody laid
 pub memory_start : (parent : List ℕ) (n : ℕ) → n ≡ 0 → parent ≡ parents [] → Memory parent (replicate 64 None) (replicate 64 None) n
 memory_start parent n start own =
-    subst (Memory parent (replicate 64 None) (replicate 64 None)) (sym start) ((refl, refl, omega arith, refl), (own, (λ _. refl, tt)))
+    subst (Memory parent (replicate 64 None) (replicate 64 None)) (sym start)
+    (record { kept = (refl, refl, omega arith, refl); grown = own; undone = λ _. refl })
 
 -- how many persons are laid
 pub persons_laid : (f : Forest) → length (laid f) ≡ f.count

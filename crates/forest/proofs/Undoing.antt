@@ -62,10 +62,11 @@ module _ (f : Forest) (last : ℕ) (one : last + 1 ≡ f.count) where
   pub memory_less : (n : ℕ) (parent : List ℕ) → n ≡ last → Grown parent f.entries last → Memory parent f.entries f.hung n
   memory_less n parent same grown =
       let kept = f.kept in
-      subst (Memory parent f.entries f.hung) (sym same) (
-        (kept.0, kept.1, omega arith, last_before.range),
-        (grown, (subst₂ Undoes (take-take last f.count f.entries (omega arith)) (take-take last f.count f.hung (omega arith)) (undoes_take (laid f) (take f.count f.hung) last f.undone), tt)),
-      )
+      subst (Memory parent f.entries f.hung) (sym same) (record {
+        kept = (kept.0, kept.1, omega arith, last_before.range);
+        grown = grown;
+        undone = subst₂ Undoes (take-take last f.count f.entries (omega arith)) (take-take last f.count f.hung (omega arith)) (undoes_take (laid f) (take f.count f.hung) last f.undone);
+      })
 
   -- a person who hung no root
   pub grown_none : get_or f.hung last None ≡ None → Grown f.parent f.entries last

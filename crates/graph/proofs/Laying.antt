@@ -1,6 +1,6 @@
 -- The links laid are those of the readings.
 -- Assumes nothing.
-use Rattle.std.proofs.Common.{◌≡◌, ℕ, ◌+◌, ◌<◌, ◌≤◌, Bool, true, false, cond, ◌&&◌, ltb, ◌⊎◌, List, [], ◌∷◌, ◌++◌, map, length, get_or, Some, None, Option, sym, refl, ap, ◌∙◌, subst, inl, inr, arith}
+use Rattle.std.proofs.Common.{◌≡◌, ℕ, ◌+◌, ◌<◌, Bool, true, false, cond, ltb, List, [], ◌∷◌, ◌++◌, map, length, get_or, Some, None, Option, sym, refl, ap, ◌∙◌, arith}
 use Rattle.std.specs.List.{range_with_len}
 use Rattle.std.proofs.lemmas.List.FromFn.{length-map-range_with_len, map-range_with_len_more}
 use Rattle.std.proofs.lemmas.Bool.{and_from, lt-ltb, cond-true, cond-false, false≢true}
@@ -15,7 +15,7 @@ use Rattle.figures.specs.Graph.{links}
 use Rattle.figures.specs.View.{reading_of, readings_of}
 use Rattle.sums.specs.Seen.{told}
 use Rattle.sums.specs.declared.slots.Held.{Held}
-use Rattle.sums.proofs.Views.{told_length, told_at}
+use Rattle.sums.proofs.Views.{told_at}
 use Rattle.graph.specs.Entries.{entry_of, entries_of}
 
 -- the entries of all persons have the links of their readings

@@ -1,13 +1,13 @@
 -- The slots worked out keep the law of descent, stay below twice the founders, and are the only ones that keep it. Assumes nothing.
-use Rattle.std.proofs.Common.{◌≡◌, ℕ, zero, suc, ◌+◌, ◌*◌, ◌<◌, ◌≤◌, Bool, true, false, ◌⊎◌, List, [], ◌∷◌, ◌++◌, length, get_or, take, sym, refl, ap, ◌∙◌, subst, inl, inr, arith}
-use Rattle.std.proofs.lemmas.List.{length_push, get_or_push, get_or_append_left, get_or_at, get_or_past, take-append-le, take_at, append_assoc, append-nil, ext_get_or}
+use Rattle.std.proofs.Common.{◌≡◌, ℕ, zero, suc, ◌+◌, ◌*◌, ◌<◌, ◌≤◌, Bool, true, false, List, [], ◌∷◌, ◌++◌, length, take, sym, refl, ap, ◌∙◌, subst, inl, inr, arith}
+use Rattle.std.proofs.lemmas.List.{length_push, get_or_push, get_or_append_left, get_or_past, take-append-le, take_at, append_assoc, append-nil, ext_get_or}
 use Rattle.std.proofs.lemmas.Bool.{cases_lt, and_parts, ltb-true}
 use Rattle.pedigree.specs.declared.persons.Meiosis.{Meiosis}
 use Rattle.pedigree.specs.declared.persons.Person.{Person}
 use Rattle.pedigree.specs.declared.persons.Person.TheVariants.{Founder, Child}
 use Rattle.pedigree.specs.Families.{founders_in, parents_below, person_at, ParentsFirst}
 use Rattle.pedigree.specs.Slots.{taken, bits_at, slots_at, held_by, slots_after, slots_of, Descent, SlotsBelow, DescentStands, DescentSettled}
-use Rattle.pedigree.proofs.Entering.{founders_in_push, parents_push, child_parents}
+use Rattle.pedigree.proofs.Entering.{founders_in_push}
 
 -- what a person holds rests on the slots of the persons below it alone
 pub held_same : (i : ℕ) (b : Meiosis) (s t : List (ℕ × ℕ)) (x : Person) (p : ℕ) → parents_below p x ≡ true → ((k : ℕ) → k < p → slots_at s k ≡ slots_at t k) → held_by i b s x ≡ held_by i b t x

@@ -1,5 +1,5 @@
 -- The meiosis bits of a child: the bit of a side, and the bits with one of them turned. Assumes nothing.
-use Rattle.std.specs.Prelude.{Bool, true, false, not}
+use Rattle.std.specs.Prelude.{Bool, false, not}
 use Rattle.pedigree.specs.declared.persons.Meiosis.{Meiosis}
 use Rattle.pedigree.specs.declared.persons.Side.{Side}
 use Rattle.pedigree.specs.declared.persons.Side.TheVariants.{Maternal, Paternal}

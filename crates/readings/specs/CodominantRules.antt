@@ -4,7 +4,6 @@ use Rattle.std.proofs.Common.{ap, ap₂, sym, ◌∙◌, ⊎_elim, arith}
 use Rattle.std.proofs.lemmas.Bool.{lt-ltb, le-ltb, le-leb, eqb-true, eq-eqb, and_parts, and_from, or_left, cond-true, cases_lt}
 use Rattle.genotype.specs.Codes.{code_of, pair_of, listed}
 use Rattle.genotype.proofs.Order.{pair_is, code_is}
-use Rattle.readings.specs.declared.class.Class.{Class}
 use Rattle.readings.specs.declared.class.Class.TheVariants.{Silent, Named}
 use Rattle.readings.specs.Model.{Rules}
 use Rattle.readings.specs.Tables.{byte_at, named_by, codominant_class, codominant_fits}

@@ -1,7 +1,6 @@
 -- The proof that a dominant table keeps the rules of a reading model.
 use Rattle.std.specs.Prelude.{◌≡◌, ℕ, Bool, true, false, cond, not, ◌||◌, List, ◌==◌, ◌≢◌, refl}
 use Rattle.std.proofs.Common.{ap, arith}
-use Rattle.readings.specs.declared.class.Class.{Class}
 use Rattle.readings.specs.declared.class.Class.TheVariants.{Silent, Named, Several}
 use Rattle.readings.specs.Model.{Rules}
 use Rattle.readings.specs.Tables.{byte_at, dominant_class, dominant_fits}

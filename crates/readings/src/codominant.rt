@@ -2,7 +2,7 @@ ghost use Rattle.readings.specs.Tables.{byte_at, codominant_class, codominant_fi
 ghost use Rattle.readings.specs.CodominantRules.{codominant_rules};
 
 use crate::class::Class;
-use crate::model::Model;
+use crate::model::Model as ReadingModel;
 use crate::table::byte_at;
 use genotype::{code, pair};
 
@@ -12,7 +12,7 @@ pub struct Codominant<'a> {
     pub table: &'a [u8],
 }
 
-pub impl Model for Codominant<'_> as CodominantModel {
+impl ReadingModel for Codominant<'_> {
     ghost classes = { λ m locus person. codominant_class (byte_at m.table.now locus person) };
 
     ghost fitting = { λ m locus person. codominant_fits (byte_at m.table.now locus person) };

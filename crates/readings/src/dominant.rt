@@ -2,7 +2,7 @@ ghost use Rattle.readings.specs.Tables.{byte_at, dominant_class, dominant_fits};
 ghost use Rattle.readings.specs.DominantRules.{dominant_rules};
 
 use crate::class::Class;
-use crate::model::Model;
+use crate::model::Model as ReadingModel;
 use crate::table::byte_at;
 
 // Dominant readings: a person's byte says whether allele 0 shows (1) or hides (0); any other byte says nothing.
@@ -15,7 +15,7 @@ const HIDES: u8 = 0;
 
 const SHOWS: u8 = 1;
 
-pub impl Model for Dominant<'_> as DominantModel {
+impl ReadingModel for Dominant<'_> {
     ghost classes = { λ m locus person. dominant_class (byte_at m.table.now locus person) };
 
     ghost fitting = { λ m locus person. dominant_fits (byte_at m.table.now locus person) };

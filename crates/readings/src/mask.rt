@@ -3,7 +3,7 @@ ghost use Rattle.readings.specs.Combined.{masked_class, masked_fits};
 ghost use Rattle.readings.specs.CombinedRules.{masked_rules};
 
 use crate::class::Class;
-use crate::model::Model;
+use crate::model::Model as ReadingModel;
 
 // A model with some persons silenced at every locus. The readings of the others are those of the model below.
 #[derive(Clone, Copy)]
@@ -21,7 +21,7 @@ fn hides(silenced: &[bool; 64], person: usize) -> bool
     person < PERSONS && silenced[person]
 }
 
-pub impl<M: Model> Model for Mask<M> as MaskModel {
+impl<M: ReadingModel> ReadingModel for Mask<M> {
     ghost classes = { λ m. masked_class (λ p. get_or m.silenced p false) (M.Model.classes m.below) };
 
     ghost fitting = { λ m. masked_fits (λ p. get_or m.silenced p false) (M.Model.fitting m.below) };

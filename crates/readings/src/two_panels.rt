@@ -3,7 +3,7 @@ ghost use Rattle.readings.specs.Combined.{panels_class, panels_fits};
 ghost use Rattle.readings.specs.CombinedRules.{panels_rules};
 
 use crate::class::Class;
-use crate::model::Model;
+use crate::model::Model as ReadingModel;
 
 // Two panels behind one another: the loci below `split` are read by the first model under their own numbers, the other loci below 8 by the second,
 // which numbers them from 0. From locus 8 on every reading is silent.
@@ -23,7 +23,7 @@ fn is_first(split: usize, locus: usize) -> bool
     locus < split
 }
 
-pub impl<F: Model, S: Model> Model for TwoPanels<F, S> as TwoPanelsModel {
+impl<F: ReadingModel, S: ReadingModel> ReadingModel for TwoPanels<F, S> {
     ghost classes = { λ m. panels_class m.split (F.Model.classes m.first) (S.Model.classes m.second) };
 
     ghost fitting = { λ m. panels_fits m.split (F.Model.fitting m.first) (S.Model.fitting m.second) };

@@ -1,13 +1,13 @@
 -- Slots below 64, none twice: there are at most 64, and one more may be pushed.
 -- Assumes nothing.
-use Rattle.std.proofs.Common.{◌≡◌, ℕ, ◌+◌, ◌<◌, ◌≤◌, Bool, true, false, cond, not, ◌&&◌, ◌||◌, eqb, ltb, ◌⊎◌, List, [], ◌∷◌, ◌++◌, length, get_or, set, replicate, sym, refl, ap, ◌∙◌, subst, ap₂, inl, inr, arith}
+use Rattle.std.proofs.Common.{◌≡◌, ℕ, ◌+◌, ◌<◌, ◌≤◌, Bool, true, false, not, ◌&&◌, ◌||◌, eqb, ltb, ◌⊎◌, List, [], ◌∷◌, ◌++◌, length, get_or, set, replicate, sym, refl, ap, ◌∙◌, subst, inl, inr, arith}
 use Rattle.std.specs.List.{range_with_len}
 use Rattle.std.proofs.lemmas.List.FromFn.{length-range_with_len}
 use Rattle.std.proofs.lemmas.List.{get_or-set_same, get_or-set_other, get_or-replicate, get_or_past, length-replicate}
 use Rattle.std.proofs.lemmas.Bool.{and_parts, and_from, and_left, and_right, not_from_true, cond-true, cond-false, cases_eq, cases_lt, cases_Bool, not-true, not_from_false, lt-ltb, ltb-true, le-ltb, eq-eqb, ne_eqb, both_ways}
 use Rattle.figures.specs.Lists.{every, In, Once}
 use Rattle.figures.specs.Graph.{has}
-use Rattle.figures.proofs.Members.{in_left, in_right, in_append, in_counting, once_append, every_from, every_at, has_in, in_has, no_more}
+use Rattle.figures.proofs.Members.{in_append, in_counting, once_append, every_from, every_at, has_in, in_has, no_more}
 use Rattle.sums.specs.Ordered.{distinct, Marked, lawful, pushed}
 
 pub has_not : (ss : List ℕ) (s : ℕ) → has ss s ≡ false → In s ss → ⊥

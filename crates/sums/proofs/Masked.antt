@@ -1,13 +1,13 @@
 -- What is seen through a mask.
 -- Assumes nothing.
-use Rattle.std.proofs.Common.{◌≡◌, ℕ, ◌≤◌, Bool, List, [], ◌∷◌, map, length, get_or, take, sym, refl, ap, ◌∙◌, arith}
+use Rattle.std.proofs.Common.{◌≡◌, ℕ, ◌≤◌, Bool, List, [], ◌∷◌, map, length, get_or, refl, ap, ◌∙◌}
 use Rattle.std.specs.List.{range_with_len, AllByRecursion as All}
 use Rattle.std.proofs.ByRecursion.{All-from_get_or, All-take}
 use Rattle.algebra.specs.Semiring.{Ops, Laws}
 use Rattle.readings.specs.Combined.{masked_class, masked_fits}
 use Rattle.readings.specs.declared.class.Class.{Class}
 use Rattle.figures.specs.Figure.{figure}
-use Rattle.figures.specs.Locus.{Locus, silence, silenced}
+use Rattle.figures.specs.Locus.{silence, silenced}
 use Rattle.figures.specs.View.{reading_of}
 use Rattle.figures.proofs.Silencing.{excess_added}
 use Rattle.sums.specs.Seen.{told, seen, alleles_of}

@@ -1,18 +1,16 @@
 -- Gathering the components one after the other finds all of them.
 -- Assumes nothing.
-use Rattle.std.proofs.Common.{◌≡◌, ℕ, zero, suc, ◌+◌, ◌^◌, ◌<◌, ◌≤◌, Bool, true, false, ◌&&◌, ◌||◌, ltb, ◌⊎◌, List, [], ◌∷◌, ◌++◌, length, get_or, replicate, is_some, Some, None, Option, sym, refl, ap, ◌∙◌, subst, ap₂, inl, inr, arith}
+use Rattle.std.proofs.Common.{◌≡◌, ℕ, ◌+◌, ◌^◌, ◌<◌, ◌≤◌, Bool, true, false, ◌&&◌, ◌||◌, ltb, ◌⊎◌, List, [], ◌∷◌, ◌++◌, length, get_or, replicate, is_some, None, Option, sym, refl, ap, ◌∙◌, subst, ap₂, inl, inr, arith}
 use Rattle.std.specs.List.{range_with_len, flat_map}
 use Rattle.std.proofs.lemmas.List.{get_or-replicate, get_or_past, length-replicate}
-use Rattle.std.proofs.lemmas.Bool.{cases_eq, cases_lt, cases_Bool, both_ways, true≢false, false≢true, and_parts, and_from, or_cases, or_left, or_right, lt-ltb, ltb-false, ltb-true}
+use Rattle.std.proofs.lemmas.Bool.{cases_eq, cases_lt, both_ways, false≢true, and_parts, and_from, or_cases, or_left, or_right, lt-ltb, ltb-true}
 use Rattle.algebra.specs.Semiring.{Ops, Laws}
 use Rattle.readings.specs.declared.class.Class.{Class}
 use Rattle.readings.specs.declared.class.Class.TheVariants.{Silent, Named, Several}
-use Rattle.figures.specs.Figure.{figure}
-use Rattle.figures.specs.Graph.{Chain, same, back, join, Component, Components, Wide, Sound, links, has, component_sum}
+use Rattle.figures.specs.Graph.{Chain, same, back, join, Component, Components, Wide, links, has}
 use Rattle.figures.specs.Lists.{fold, some_passes, In, Once}
-use Rattle.figures.specs.Locus.{Locus, Reading}
+use Rattle.figures.specs.Locus.{Locus}
 use Rattle.figures.specs.View.{reading_of, readings_of}
-use Rattle.figures.proofs.Factored.{figures_factored}
 use Rattle.figures.proofs.Members.{in_left, in_right, in_append, in_joined, joined_in, in_counting, counting_in, once_append, has_in, in_has, no_more}
 use Rattle.sums.specs.Searching.{Searching, pair_of, is_set, agrees}
 use Rattle.sums.specs.Seen.{told, seen}

@@ -1,13 +1,13 @@
 -- The search gives up only where nothing can be found, and finds all else.
 -- Assumes nothing.
-use Rattle.std.proofs.Common.{◌≡◌, ℕ, zero, suc, ◌+◌, ◌<◌, ◌≤◌, Bool, true, false, cond, not, ◌&&◌, ◌||◌, eqb, ◌⊎◌, List, [], ◌∷◌, ◌++◌, length, get_or, take, drop, set, is_some, Some, None, Option, unwrap_or, sym, refl, ap, ◌∙◌, subst, ap₂, inl, inr, arith}
+use Rattle.std.proofs.Common.{◌≡◌, ℕ, ◌+◌, ◌<◌, ◌≤◌, Bool, true, false, cond, not, ◌&&◌, ◌||◌, eqb, ◌⊎◌, List, [], ◌∷◌, ◌++◌, length, get_or, take, drop, set, is_some, Some, None, Option, unwrap_or, sym, refl, ap, ◌∙◌, subst, ap₂, inl, inr, arith}
 use mathlib.Core.Path.{fun_ext}
 use Rattle.std.specs.List.{range_with_len}
 use Rattle.std.proofs.lemmas.List.{get_or-set_same, get_or-set_other, take_more, drop_more, drop_all, take_all, take-append-drop}
-use Rattle.std.proofs.lemmas.Bool.{cases_eq, cases_Bool, both_ways, true≢false, false≢true, eqb-true, eqb-false, ne_eqb, or_cases, or_parts, or_left, or_from, not-true, not-false, not_from_false}
+use Rattle.std.proofs.lemmas.Bool.{cases_eq, cases_Bool, both_ways, true≢false, false≢true, eqb-false, or_parts}
 use Rattle.algebra.specs.Semiring.{Ops, Laws}
 use Rattle.readings.specs.declared.class.Class.{Class}
-use Rattle.readings.specs.declared.class.Class.TheVariants.{Silent, Named, Several}
+use Rattle.readings.specs.declared.class.Class.TheVariants.{Silent}
 use Rattle.figures.specs.Lists.{fold, every, In, Once}
 use Rattle.figures.specs.Locus.{Reading, loud}
 use Rattle.figures.specs.Graph.{own}

@@ -1,13 +1,13 @@
 -- What holds of the locus that slots held by persons and a model give.
 -- Assumes nothing.
-use Rattle.std.proofs.Common.{◌≡◌, ℕ, ◌+◌, ◌<◌, ◌≤◌, Bool, true, false, List, map, length, get_or, take, sym, refl, ap, ◌∙◌, subst, ap₂, arith}
+use Rattle.std.proofs.Common.{◌≡◌, ℕ, ◌+◌, ◌<◌, Bool, true, false, List, map, length, get_or, sym, ap, ◌∙◌, subst, ap₂, arith}
 use Rattle.std.specs.List.{range_with_len}
 use Rattle.std.proofs.lemmas.List.{get_or-take, length-take-le}
 use Rattle.pedigree.specs.Slots.{slots_at}
 use Rattle.readings.specs.declared.class.Class.{Class}
 use Rattle.readings.specs.Model.{Rules}
 use Rattle.figures.specs.Lists.{kept, In}
-use Rattle.figures.specs.Locus.{Locus, Reading, loud}
+use Rattle.figures.specs.Locus.{Reading, loud}
 use Rattle.figures.specs.Graph.{Sound, links}
 use Rattle.figures.specs.View.{reading_of, readings_of}
 use Rattle.figures.proofs.Members.{in_map, map_in, kept_in, in_counting, counting_in}

@@ -1,6 +1,6 @@
 -- Gathering the slots of a component link by link.
 -- Assumes nothing.
-use Rattle.std.specs.Prelude.{ℕ, Bool, cond, List, take, fold, ◌==◌}
+use Rattle.std.specs.Prelude.{ℕ, cond, List, take, fold, ◌==◌}
 use Rattle.sums.specs.declared.order.Gathered.{Gathered}
 use Rattle.sums.specs.Ordered.{pushed}
 

@@ -1,6 +1,6 @@
 -- The locus that slots held by persons and a reading model give.
 -- Assumes nothing.
-use Rattle.std.specs.Prelude.{ℕ, Bool, List, length, take}
+use Rattle.std.specs.Prelude.{ℕ, Bool, List, take}
 use Rattle.readings.specs.declared.class.Class.{Class}
 use Rattle.figures.specs.Locus.{Locus}
 use Rattle.figures.specs.View.{readings_of}

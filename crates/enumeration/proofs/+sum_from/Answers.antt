@@ -1,4 +1,4 @@
-use Rattle.std.proofs.Common.{◌+◌, ◌-◌, ◌<◌, [], ◌∷◌, ◌++◌, length, take, sym, ap, ◌∙◌, ap₂, arith, rules}
+use Rattle.std.proofs.Common.{◌+◌, ◌-◌, [], ◌∷◌, ◌++◌, length, take, sym, ap, ◌∙◌, ap₂, arith, rules}
 use Rattle.std.specs.List.{range_with_len}
 use Rattle.std.proofs.lemmas.List.{take_more_set}
 use Rattle.figures.specs.Figure.{weights}
@@ -14,7 +14,7 @@ loop-allele-preserved g t c =
     let rs = readings_of c.args.held.now (g.M.Model.classes c.args.model.now c.args.locus) (g.M.Model.fitting c.args.model.now c.args.locus) in
     let after = sum_after o (weights o c.args.costs.now) rs (length c.args.costs.now) (c.args.slots - (c.args.slot + 1)) in
     c.sum-total.ensures
-    ∙ ap₂ o.sum c.loop-allele.invariant (c.sum-from.ensures ∙ ap after (take_more_set c.args.alleles c.args.slot c.loop-allele.allele (search rules)))
+    ∙ ap₂ o.sum c.loop-allele.invariant (c.sum_from.ensures ∙ ap after (take_more_set c.args.alleles c.args.slot c.loop-allele.allele (search rules)))
     ∙ sum_more o g.met.V.Algebra.laws (λ a. after (take c.args.slot c.args.alleles ++ a ∷ [])) c.loop-allele.allele
 
 pub returns : goal.returns

@@ -6,8 +6,8 @@ use Rattle.figures.specs.View.{readings_of}
 use Rattle.enumeration.specs.Answer.{sum_after}
 use Rattle.enumeration.proofs.+sum_from.Given as goal
 
-abbrev pub decreases-sum-from : goal.decreases-sum-from
-decreases-sum-from g l = l.slots - l.slot
+abbrev pub decreases-sum_from : goal.decreases-sum_from
+decreases-sum_from g l = l.slots - l.slot
 
 abbrev pub invariant-loop-allele : goal.invariant-loop-allele
 invariant-loop-allele g l =

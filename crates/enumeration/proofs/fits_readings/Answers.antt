@@ -1,4 +1,4 @@
-use Rattle.std.proofs.Common.{sym, ◌∙◌, arith, below_more}
+use Rattle.std.proofs.Common.{sym, arith, below_more}
 use Rattle.figures.proofs.Viewed.{fits_all_from, fits_all_not}
 use Rattle.enumeration.proofs.fits_readings.Goals as goal
 

@@ -1,6 +1,5 @@
-use Rattle.std.proofs.Common.{sym, ap, ◌∙◌, subst}
+use Rattle.std.proofs.Common.{ap, ◌∙◌, subst}
 use Rattle.forest.specs.Entries.{links_laid}
-use Rattle.forest.specs.Laid.{links_of}
 use Rattle.figures.specs.Graph.{Parts}
 use Rattle.sums.specs.Seen.{told}
 use Rattle.graph.proofs.Laying.{laid_links}
@@ -11,4 +10,4 @@ returns g c =
     let h = c.args.held.now in
     let class = g.M.Model.classes c.args.model.now c.args.locus in
     let fits = g.M.Model.fitting c.args.model.now c.args.locus in
-    subst (λ ls. Parts h.slots ls c.parts.result) (ap links_laid c.lay-all.ensures ∙ laid_links (told h) class fits) c.parts.ensures
+    subst (λ ls. Parts h.slots ls c.parts.result) (ap links_laid c.lay_all.ensures ∙ laid_links (told h) class fits) c.parts.ensures

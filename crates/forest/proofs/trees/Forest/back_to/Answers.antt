@@ -7,14 +7,14 @@ use Rattle.forest.proofs.trees.Forest.back_to.Goals as goal
 pub loop-self-smaller : goal.loop-self-smaller
 loop-self-smaller c =
     let f = c.loop-self.self in
-    let g = c.take-back.new.self in
-    omega (arith, persons_laid f, persons_laid g, ap length c.take-back.ensures, length-take (length (laid f) - 1) (laid f))
+    let g = c.take_back.new.self in
+    omega (arith, persons_laid f, persons_laid g, ap length c.take_back.ensures, length-take (length (laid f) - 1) (laid f))
 
 pub loop-self-preserved : goal.loop-self-preserved
 loop-self-preserved c =
     let f = c.loop-self.self in
     let p = c.args.person in
-    ap (take p) c.take-back.ensures ∙ take-take p (length (laid f) - 1) (laid f) (omega (arith, persons_laid f)) ∙ c.loop-self.invariant
+    ap (take p) c.take_back.ensures ∙ take-take p (length (laid f) - 1) (laid f) (omega (arith, persons_laid f)) ∙ c.loop-self.invariant
 
 pub returns : goal.returns
 returns c =

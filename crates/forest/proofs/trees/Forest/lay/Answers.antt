@@ -5,8 +5,8 @@ use Rattle.forest.proofs.Chained.{root_name}
 use Rattle.forest.proofs.Growing.{memory_some, persons_laid, laid_more}
 use Rattle.forest.proofs.trees.Forest.lay.Goals as goal
 
-pub invariant-of-self : goal.invariant-of-self
-invariant-of-self c =
+pub invariant_of-self : goal.invariant_of-self
+invariant_of-self c =
     let f = c.args.self.now in
     let l = c.args.slots in
     let x = root_name (links_of f) _ c.root-maternal.result (c.root-maternal.ensures.joined, c.root-maternal.ensures.lowest) in

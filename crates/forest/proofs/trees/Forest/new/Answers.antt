@@ -11,7 +11,7 @@ loop-slot-preserved c =
       below_more _ _ (λ k h. get_or-set_other l.parent l.slot k _ 0 (omega arith) ∙ l.invariant.1 k h) (get_or-set_same l.parent l.slot _ 0 (omega arith) ∙ omega arith),
     )
 
-pub invariant-of-result : goal.invariant-of-result
-invariant-of-result c =
+pub invariant_of-result : goal.invariant_of-result
+invariant_of-result c =
     let l = c.loop-slot in
     memory_start l.parent _ (omega arith) (parents_first l.parent l.slot l.invariant.0 (omega arith) l.invariant.1)

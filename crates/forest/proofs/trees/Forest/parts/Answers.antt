@@ -17,8 +17,8 @@ read f s h =
     ap (λ ps. get_or ps s s) (sym f.grown)
     ∙ sym (get_or_default f.parent s 0 s (omega (arith, ap length f.grown, length_parents (newest (laid f)))))
 
-pub overflow-add-parts : goal.overflow-add-parts
-overflow-add-parts c =
+pub overflow_add-parts : goal.overflow_add-parts
+overflow_add-parts c =
     let f = c.args.self.now in
     let few = names_le (newest (laid f)) f.kept.3 c.loop-slot.slot in
     search rules

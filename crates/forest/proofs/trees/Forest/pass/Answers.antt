@@ -3,8 +3,8 @@ use Rattle.std.proofs.lemmas.Bool.{lt-ltb}
 use Rattle.forest.proofs.Growing.{memory_none, persons_laid, laid_more}
 use Rattle.forest.proofs.trees.Forest.pass.Goals as goal
 
-pub invariant-of-self : goal.invariant-of-self
-invariant-of-self c = memory_none c.args.self.now _ _ _ (omega arith) (omega arith) (search) (search)
+pub invariant_of-self : goal.invariant_of-self
+invariant_of-self c = memory_none c.args.self.now _ _ _ (omega arith) (omega arith) (search) (search)
 
 pub returns : goal.returns
 returns c =

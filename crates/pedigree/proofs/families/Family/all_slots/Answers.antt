@@ -17,14 +17,14 @@ within f p {m} {n} l e =
     let few = f.kept.1 in
     (omega arith, omega arith)
 
-pub offset-bounds-slots-mother : goal.offset-bounds-slots-mother
-offset-bounds-slots-mother c = let h = within c.args.self.now c.loop-p.p c.loop-p-test.true c.in-Child.is in search rules
+pub offset_bounds-slots-mother : goal.offset_bounds-slots-mother
+offset_bounds-slots-mother c = let h = within c.args.self.now c.loop-p.p c.loop-p-test.true c.in-Child.is in search rules
 
 pub bounds-slots-mother : goal.bounds-slots-mother
 bounds-slots-mother c = (within c.args.self.now c.loop-p.p c.loop-p-test.true c.in-Child.is).0
 
-pub offset-bounds-slots-father : goal.offset-bounds-slots-father
-offset-bounds-slots-father c = let h = within c.args.self.now c.loop-p.p c.loop-p-test.true c.in-Child.is in search rules
+pub offset_bounds-slots-father : goal.offset_bounds-slots-father
+offset_bounds-slots-father c = let h = within c.args.self.now c.loop-p.p c.loop-p-test.true c.in-Child.is in search rules
 
 pub bounds-slots-father : goal.bounds-slots-father
 bounds-slots-father c = (within c.args.self.now c.loop-p.p c.loop-p-test.true c.in-Child.is).1

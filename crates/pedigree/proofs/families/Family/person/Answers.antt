@@ -1,4 +1,4 @@
-use Rattle.std.proofs.Common.{take, Some, sym, ap, ◌∙◌, arith}
+use Rattle.std.proofs.Common.{Some, sym, ap, ◌∙◌, arith}
 use Rattle.std.proofs.lemmas.List.{get_or-take, length-take-le}
 use Rattle.std.proofs.lemmas.Bool.{cond-true, lt-ltb}
 use Rattle.pedigree.specs.declared.persons.Person.TheVariants.{Founder}

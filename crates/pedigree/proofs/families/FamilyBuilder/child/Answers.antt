@@ -1,15 +1,15 @@
-use Rattle.std.proofs.Common.{◌+◌, arith, rules}
+use Rattle.std.proofs.Common.{arith, rules}
 use Rattle.std.proofs.lemmas.List.{take_more_set}
 use Rattle.std.proofs.lemmas.Bool.{and_from, lt-ltb}
 use Rattle.pedigree.specs.declared.persons.Person.TheVariants.{Child}
 use Rattle.pedigree.proofs.Entering.{kept_push}
 use Rattle.pedigree.proofs.families.FamilyBuilder.child.Goals as goal
 
-pub invariant-of-self : goal.invariant-of-self
-invariant-of-self c =
+pub invariant_of-self : goal.invariant_of-self
+invariant_of-self c =
     let b = c.args.self.now in
     let here = and_from _ _ (lt-ltb c.args.mother b.count (omega arith)) (lt-ltb c.args.father b.count (omega arith)) in
-    (kept_push b.persons b.count b.founders b.founders (Child c.args.mother c.args.father) b.kept (omega arith) here (omega arith) (omega arith), tt)
+    record { kept = kept_push b.persons b.count b.founders b.founders (Child c.args.mother c.args.father) b.kept (omega arith) here (omega arith) (omega arith) }
 
 pub returns : goal.returns
 returns c =

@@ -4,10 +4,10 @@ use Rattle.pedigree.specs.declared.persons.Person.TheVariants.{Founder}
 use Rattle.pedigree.proofs.Entering.{kept_push}
 use Rattle.pedigree.proofs.families.FamilyBuilder.founder.Goals as goal
 
-pub invariant-of-self : goal.invariant-of-self
-invariant-of-self c =
+pub invariant_of-self : goal.invariant_of-self
+invariant_of-self c =
     let b = c.args.self.now in
-    (kept_push b.persons b.count b.founders (b.founders + 1) Founder b.kept (omega arith) refl refl (omega arith), tt)
+    record { kept = kept_push b.persons b.count b.founders (b.founders + 1) Founder b.kept (omega arith) refl refl (omega arith) }
 
 pub returns : goal.returns
 returns c =

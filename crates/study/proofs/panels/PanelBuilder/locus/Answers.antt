@@ -16,8 +16,8 @@ returns-then-costs-alleles c =
     let refused = number_refused (loci_so_far b) c.args.alleles c.args.costs.now b.count (many b) (omega arith) (omega arith) (omega arith) (λ e. omega arith) in
     record { answer = search rules; after = search rules }
 
-pub invariant-of-self : goal.invariant-of-self
-invariant-of-self c =
+pub invariant_of-self : goal.invariant_of-self
+invariant_of-self c =
     let b = c.args.self.now in
     let k = c.args.alleles in
     let costs = c.args.costs.now in
@@ -25,7 +25,7 @@ invariant-of-self c =
     let is = c.in-Some.ensures in
     let kept = kept_push b.loci b.count b.begun k cells costs b.kept (omega arith) (omega arith) is.1 in
     let sound = sound_push b.loci b.count b.begun k cells costs b.kept (omega arith) (omega arith) is.1 (omega arith) (omega arith) is.0 is.2 b.sound in
-    (search rules, (search rules, tt))
+    record { kept = search rules; sound = search rules }
 
 pub returns-in-None : goal.returns-in-None
 returns-in-None c =

@@ -3,8 +3,8 @@ use Rattle.std.proofs.lemmas.List.{length-set, take_more_set, take_more, take_al
 use Rattle.study.proofs.Memory.{low_all, low_not}
 use Rattle.study.proofs.panels.builder.stored.Goals as goal
 
-pub returns-then-cost-gt-MOST-COST : goal.returns-then-cost-gt-MOST-COST
-returns-then-cost-gt-MOST-COST c = low_not c.args.costs.now c.loop-i.i (omega arith) (omega arith)
+pub returns-then-cost-gt-MOST_COST : goal.returns-then-cost-gt-MOST_COST
+returns-then-cost-gt-MOST_COST c = low_not c.args.costs.now c.loop-i.i (omega arith) (omega arith)
 
 pub loop-i-preserved : goal.loop-i-preserved
 loop-i-preserved c =

@@ -1,10 +1,10 @@
-use Rattle.std.proofs.Common.{◌≡◌, ◌+◌, ◌<◌, ◌≤◌, true, false, length, get_or, drop, set, sym, refl, ap, ◌∙◌, subst, ap₂, arith, rules}
+use Rattle.std.proofs.Common.{◌≡◌, ◌+◌, ◌<◌, length, get_or, drop, sym, ap, ◌∙◌, ap₂, arith, rules}
 use Rattle.std.specs.List.{range_with_len}
 use Rattle.figures.specs.Figure.{weights}
-use Rattle.figures.specs.Lists.{fold, every}
+use Rattle.figures.specs.Lists.{fold}
 use Rattle.figures.specs.View.{readings_of}
 use Rattle.figures.proofs.Searched.{searched}
-use Rattle.sums.specs.Searching.{env, passes_at, fits_order}
+use Rattle.sums.specs.Searching.{env, fits_order}
 use Rattle.sums.specs.Seen.{told}
 use Rattle.sums.proofs.Reaching.{at_place}
 use Rattle.sums.proofs.Searches.{part, all_fit, goes_on, gives_up, env_set, part_more, part_none, parts_all, parts_end}
@@ -18,13 +18,13 @@ returns-then-at-order g t c =
     let o = g.V.Algebra.operations in
     let costs = c.args.self.now.costs.now in
     c.one.ensures
-    ∙ sym (parts_end o g.met.V.Algebra.laws (length costs) (weights o costs) (fits_order c.args.order.now (readings_of (told h) class fits)) c.args.order.now c.args.at (env c.args.alleles) c.if-at-order.true (all_fit h class fits c.args.order.now c.args.at c.args.alleles c.requires.0 c.requires.1 c.if-at-order.true))
+    ∙ sym (parts_end o g.met.V.Algebra.laws (length costs) (weights o costs) (fits_order c.args.order.now (readings_of (told h) class fits)) c.args.order.now c.args.at (env c.args.alleles) c.if-at-order.true (all_fit h class fits c.args.order.now c.args.at c.args.alleles c.requires.searching c.requires.inside c.if-at-order.true))
 
-pub offset-bounds-more-slot : goal.offset-bounds-more-slot
-offset-bounds-more-slot g t c = omega (arith, c.requires.0.slots (get_or c.args.order.now c.args.at 0) (at_place 0 c.args.order.now c.args.at (omega arith)))
+pub offset_bounds-more-slot : goal.offset_bounds-more-slot
+offset_bounds-more-slot g t c = omega (arith, c.requires.searching.slots (get_or c.args.order.now c.args.at 0) (at_place 0 c.args.order.now c.args.at (omega arith)))
 
 pub bounds-more-slot : goal.bounds-more-slot
-bounds-more-slot g t c = omega (arith, c.requires.0.slots (get_or c.args.order.now c.args.at 0) (at_place 0 c.args.order.now c.args.at (omega arith)))
+bounds-more-slot g t c = omega (arith, c.requires.searching.slots (get_or c.args.order.now c.args.at 0) (at_place 0 c.args.order.now c.args.at (omega arith)))
 
 pub loop-allele-preserved-then-not-admits : goal.loop-allele-preserved-then-not-admits
 loop-allele-preserved-then-not-admits g t c =
@@ -38,10 +38,10 @@ loop-allele-preserved-then-not-admits g t c =
     let a = c.loop-allele.allele in
     let size : length c.args.alleles ≡ 64 = search rules in
     let more : c.args.at < length order = omega arith in
-    let small : get_or order c.args.at 0 < length c.args.alleles = omega (arith, c.requires.0.slots (get_or order c.args.at 0) (at_place 0 order c.args.at more)) in
+    let small : get_or order c.args.at 0 < length c.args.alleles = omega (arith, c.requires.searching.slots (get_or order c.args.at 0) (at_place 0 order c.args.at more)) in
     part_none o g.met.V.Algebra.laws (length costs) (weights o costs) (fits_order order rs) order c.args.at (env c.args.alleles) c.loop-allele.total a c.loop-allele.invariant
     (ap (searched o (length costs) (weights o costs) (fits_order order rs) (drop (c.args.at + 1) order)) (sym (env_set c.args.alleles (get_or order c.args.at 0) a small))
-    ∙ gives_up h class fits order c.args.at c.args.alleles c.requires.0 size more a o g.met.V.Algebra.laws (length costs) (weights o costs) (λ p x y e. (g.M.Model.rules c.args.self.now.model.now).silent c.args.self.now.locus p x y e) (sym c.if-not-admits.ensures))
+    ∙ gives_up h class fits order c.args.at c.args.alleles c.requires.searching size more a o g.met.V.Algebra.laws (length costs) (weights o costs) (λ p x y e. (g.M.Model.rules c.args.self.now.model.now).silent c.args.self.now.locus p x y e) (sym c.if-not-admits.ensures))
 
 pub search-rest-requires : goal.search-rest-requires
 search-rest-requires g t c κs =
@@ -50,7 +50,7 @@ search-rest-requires g t c κs =
     let fits = g.M.Model.fitting c.args.self.now.model.now c.args.self.now.locus in
     let size : length c.args.alleles ≡ 64 = search rules in
     λ d.
-    (omega arith, (d.0, (d.1, (goes_on h class fits c.args.order.now c.args.at c.args.alleles c.requires.0 size (omega arith) c.loop-allele.allele (sym c.if-not-admits.ensures), (c.requires.1, c.requires.2)))))
+    (omega arith, (d.0, (d.1, (goes_on h class fits c.args.order.now c.args.at c.args.alleles c.requires.searching size (omega arith) c.loop-allele.allele (sym c.if-not-admits.ensures), (c.requires.inside, c.requires.costs_len_bound)))))
 
 pub loop-allele-preserved : goal.loop-allele-preserved
 loop-allele-preserved g t c =
@@ -64,7 +64,7 @@ loop-allele-preserved g t c =
     let a = c.loop-allele.allele in
     let size : length c.args.alleles ≡ 64 = search rules in
     let more : c.args.at < length order = omega arith in
-    let small : get_or order c.args.at 0 < length c.args.alleles = omega (arith, c.requires.0.slots (get_or order c.args.at 0) (at_place 0 order c.args.at more)) in
+    let small : get_or order c.args.at 0 < length c.args.alleles = omega (arith, c.requires.searching.slots (get_or order c.args.at 0) (at_place 0 order c.args.at more)) in
     part_more o g.met.V.Algebra.laws (length costs) (weights o costs) (fits_order order rs) order c.args.at (env c.args.alleles) c.loop-allele.total c.sum-total.result a c.loop-allele.invariant
     (c.sum-total.ensures ∙ ap (o.sum c.loop-allele.total) (c.product.ensures ∙ ap₂ o.product c.weight.ensures (c.search-rest.ensures ∙ ap (searched o (length costs) (weights o costs) (fits_order order rs) (drop (c.args.at + 1) order)) (env_set c.args.alleles (get_or order c.args.at 0) a small))))
 

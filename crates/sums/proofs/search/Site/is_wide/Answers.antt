@@ -1,12 +1,11 @@
-use Rattle.std.proofs.Common.{◌≡◌, ℕ, false, ◌||◌, ◌⊎◌, List, [], ◌∷◌, length, get_or, replicate, sym, refl, ap, ◌∙◌, subst, inl, inr, arith, rules}
+use Rattle.std.proofs.Common.{◌≡◌, false, ◌||◌, [], ◌∷◌, length, get_or, replicate, sym, refl, ap, ◌∙◌, rules}
 use Rattle.figures.specs.Graph.{links}
-use Rattle.figures.specs.Lists.{In}
 use Rattle.figures.specs.View.{readings_of}
 use Rattle.sums.specs.Gathering.{items}
 use Rattle.sums.specs.Seen.{told, seen}
 use Rattle.sums.specs.Widths.{too_wide}
 use Rattle.sums.proofs.Lawful.{unmarked}
-use Rattle.sums.proofs.Parting.{Parted, parted_none, parted_old, parted_new, parted_all, wide_some, wide_none, narrow_more}
+use Rattle.sums.proofs.Parting.{parted_none, parted_old, parted_new, parted_all, wide_some, wide_none, narrow_more}
 use Rattle.sums.proofs.search.Site.is_wide.Goals as goal
 
 pub loop-slot-init : goal.loop-slot-init
@@ -24,12 +23,12 @@ loop-slot-preserved-then-gathered-slot g c =
     let inv = c.loop-slot.invariant in
     (inv.0, (inv.1.0, parted_old h.slots (links (readings_of (told h) class fits)) c.loop-slot.gathered c.loop-slot.slot inv.1.0 inv.1.1 c.if-gathered-slot.true, inv.1.2))
 
-pub returns-then-is-too-wide : goal.returns-then-is-too-wide
-returns-then-is-too-wide g c =
+pub returns-then-is_too_wide : goal.returns-then-is_too_wide
+returns-then-is_too_wide g c =
     let h = c.args.self.now.held.now in
     let class = g.M.Model.classes c.args.self.now.model.now c.args.self.now.locus in
     let fits = g.M.Model.fitting c.args.self.now.model.now c.args.self.now.locus in
-    wide_some h class fits (length c.args.self.now.costs.now) c.loop-slot.slot (items c.gather-found.result) c.loop-slot-test.true c.gather-found.ensures (sym c.if-is-too-wide.ensures)
+    wide_some h class fits (length c.args.self.now.costs.now) c.loop-slot.slot (items c.gather-found.result) c.loop-slot-test.true c.gather-found.ensures (sym c.if-is_too_wide.ensures)
 
 pub loop-slot-preserved : goal.loop-slot-preserved
 loop-slot-preserved g c =
@@ -39,7 +38,7 @@ loop-slot-preserved g c =
     let inv = c.loop-slot.invariant in
     let found = c.gather-found.result in
     let size : length c.marked-gathered.result ≡ 64 = search rules in
-    (size, (items found ∷ inv.1.0, parted_new h.slots (links (readings_of (told h) class fits)) c.loop-slot.gathered c.loop-slot.slot inv.1.0 inv.1.1 (items found) c.marked-gathered.result c.loop-slot-test.true c.gather-found.ensures c.if-gathered-slot.false (λ t. c.marked-gathered.ensures t ∙ ap (λ b. get_or c.loop-slot.gathered t false || b) (found.marked t)), narrow_more (too_wide h class (length c.args.self.now.costs.now)) (items found) inv.1.0 (sym c.if-is-too-wide.ensures) inv.1.2))
+    (size, (items found ∷ inv.1.0, parted_new h.slots (links (readings_of (told h) class fits)) c.loop-slot.gathered c.loop-slot.slot inv.1.0 inv.1.1 (items found) c.marked-gathered.result c.loop-slot-test.true c.gather-found.ensures c.if-gathered-slot.false (λ t. c.marked-gathered.ensures t ∙ ap (λ b. get_or c.loop-slot.gathered t false || b) (found.marked t)), narrow_more (too_wide h class (length c.args.self.now.costs.now)) (items found) inv.1.0 (sym c.if-is_too_wide.ensures) inv.1.2))
 
 pub returns : goal.returns
 returns g c =

@@ -1,5 +1,4 @@
-use Rattle.std.proofs.Common.{◌≡◌, ℕ, ◌-◌, false, ◌||◌, List, [], ◌∷◌, length, get_or, take, replicate, None, sym, refl, ap, ◌∙◌, subst, arith, rules}
-use Rattle.algebra.specs.Semiring.{Ops}
+use Rattle.std.proofs.Common.{◌≡◌, ◌-◌, false, ◌||◌, [], ◌∷◌, length, get_or, take, replicate, None, sym, refl, ap, ◌∙◌, subst, arith, rules}
 use Rattle.figures.specs.Figure.{weights}
 use Rattle.figures.specs.Graph.{links, component_sum}
 use Rattle.figures.specs.View.{readings_of}
@@ -9,7 +8,7 @@ use Rattle.sums.specs.Gathering.{items}
 use Rattle.sums.specs.Searching.{Searching, Inside, env, fits_order}
 use Rattle.sums.specs.Seen.{told, seen}
 use Rattle.sums.proofs.Lawful.{unmarked, lawful_once, lawful_below}
-use Rattle.sums.proofs.Parting.{Parted, parted_none, parted_old, parted_new, parted_all, product_more, nothing_set}
+use Rattle.sums.proofs.Parting.{parted_none, parted_old, parted_new, parted_all, product_more, nothing_set}
 use Rattle.sums.proofs.Views.{seen_sound}
 use Rattle.sums.proofs.search.Site.product.Goals as goal
 
@@ -38,7 +37,15 @@ search-sum-requires g c =
     let whole : found.count - 0 ≡ found.count = omega arith in
     let L = seen h (length costs) class fits in
     let sound = seen_sound h (length costs) c.args.self.now.locus (g.M.Model.classes c.args.self.now.model.now) (g.M.Model.fitting c.args.self.now.model.now) (g.M.Model.rules c.args.self.now.model.now) in
-    (subst (λ n. Searching h fits (take n found.order) 0 (replicate 64 None)) (sym whole) (nothing_set h fits (items found) (lawful_below (items found) found.apart) (lawful_once (items found) found.apart)), subst (λ n. Inside (take n found.order) (readings_of (told h) class fits)) (sym whole) (own_inside L sound c.loop-slot.slot (items found) c.gather-found.ensures), c.requires)
+    record {
+      searching =
+          subst (λ n. Searching h fits (take n found.order) 0 (replicate 64 None)) (sym whole)
+          (nothing_set h fits (items found) (lawful_below (items found) found.apart) (lawful_once (items found) found.apart));
+      inside =
+          subst (λ n. Inside (take n found.order) (readings_of (told h) class fits)) (sym whole)
+          (own_inside L sound c.loop-slot.slot (items found) c.gather-found.ensures);
+      costs_len_bound = c.requires;
+    }
 
 pub loop-slot-preserved : goal.loop-slot-preserved
 loop-slot-preserved g c =

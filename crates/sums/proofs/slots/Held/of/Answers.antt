@@ -1,4 +1,4 @@
-use Rattle.std.proofs.Common.{◌≡◌, ◌<◌, ◌≤◌, length, get_or, take, sym, ap, ◌∙◌, subst, ap₂, arith, rules}
+use Rattle.std.proofs.Common.{◌≡◌, ◌<◌, ◌≤◌, length, take, ap, ◌∙◌, ap₂, arith, rules}
 use Rattle.std.proofs.lemmas.List.{get_or-take, length-take-le, take_at}
 use Rattle.pedigree.specs.Building.{persons_of}
 use Rattle.pedigree.specs.Slots.{slots_of}
@@ -6,32 +6,31 @@ use Rattle.pedigree.proofs.Descents.{descent_stands}
 use Rattle.pedigree.proofs.Entering.{family_lawful}
 use Rattle.sums.proofs.slots.Held.of.Goals as goal
 
-pub invariant-of-result : goal.invariant-of-result
-invariant-of-result c =
+pub invariant_of-result : goal.invariant_of-result
+invariant_of-result c =
     let f = c.args.family.now in
-    let size : length c.all-slots.result ≡ 64 = search rules in
-    let few : length (persons_of f) ≤ 64 = (family_lawful f).0 in (
-      (
+    let size : length c.all_slots.result ≡ 64 = search rules in
+    let few : length (persons_of f) ≤ 64 = (family_lawful f).0 in record {
+      within = (
         size,
         omega (arith, c.count.ensures),
-        omega (arith, c.slot-count.ensures, (family_lawful f).1),
+        omega (arith, c.slot_count.ensures, (family_lawful f).1),
         λ p h.
             let l : p < length (persons_of f) = omega (arith, c.count.ensures) in
-            let b = c.all-slots.ensures.bound p (omega (arith, length-take-le (length (persons_of f)) c.all-slots.result (omega arith))) in
-            let at = get_or-take (length (persons_of f)) c.all-slots.result p (0, 0) l in
-            (omega (arith, b.0, ap (λ x. x.0) at, c.slot-count.ensures), omega (arith, b.1, ap (λ x. x.1) at, c.slot-count.ensures)),
-      ),
-      tt,
-    )
+            let b = c.all_slots.ensures.bound p (omega (arith, length-take-le (length (persons_of f)) c.all_slots.result (omega arith))) in
+            let at = get_or-take (length (persons_of f)) c.all_slots.result p (0, 0) l in
+            (omega (arith, b.0, ap (λ x. x.0) at, c.slot_count.ensures), omega (arith, b.1, ap (λ x. x.1) at, c.slot_count.ensures)),
+      );
+    }
 
 pub returns : goal.returns
 returns c =
     let f = c.args.family.now in
     record {
       told =
-          ap₂ take c.count.ensures c.all-slots.ensures.value
+          ap₂ take c.count.ensures c.all_slots.ensures.value
           ∙ take_at (slots_of (persons_of f) c.args.bits.now) _ (length (persons_of f)) (descent_stands (persons_of f) c.args.bits.now (family_lawful f).2).0.all;
-      slots = c.slot-count.ensures;
+      slots = c.slot_count.ensures;
       persons = c.count.ensures;
-      pairs = c.all-slots.ensures.value;
+      pairs = c.all_slots.ensures.value;
     }
