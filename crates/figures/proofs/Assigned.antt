@@ -1,13 +1,13 @@
 -- The assignments listed are exactly those of n alleles below k, and none is listed twice.
 -- Assumes nothing.
 use Rattle.std.proofs.Common.{◌≡◌, ℕ, zero, suc, ◌<◌, List, [], ◌∷◌, map, length, refl, ap, inl, inr, arith}
-use Rattle.std.specs.List.{range_with_len, AllByRecursion as All}
+use Rattle.std.specs.List.{range_with_len, AllByRecursion}
 use Rattle.figures.specs.Lists.{In, Once}
 use Rattle.figures.specs.Assignments.{assignments}
 use Rattle.figures.specs.Statements.{Listed}
 use Rattle.figures.proofs.Members.{in_map, map_in, in_joined, joined_in, in_counting, counting_in, once_map, once_joined, once_counting}
 
-pub listed_fits : (n k : ℕ) (ρ : List ℕ) → In ρ (assignments n k) → (length ρ ≡ n) × All (λ a. a < k) ρ
+pub listed_fits : (n k : ℕ) (ρ : List ℕ) → In ρ (assignments n k) → (length ρ ≡ n) × AllByRecursion (λ a. a < k) ρ
 listed_fits zero k ρ (inl e) = simp e (refl, tt)
 listed_fits zero k ρ (inr i) = elim i [ ]
 listed_fits (suc n) k ρ i =
@@ -17,7 +17,7 @@ listed_fits (suc n) k ρ i =
     let b = counting_in 0 k r.0 r.1 in
     simp q.2 (ap suc h.0, (omega arith, h.1))
 
-pub fits_listed : (n k : ℕ) (ρ : List ℕ) → length ρ ≡ n → All (λ a. a < k) ρ → In ρ (assignments n k)
+pub fits_listed : (n k : ℕ) (ρ : List ℕ) → length ρ ≡ n → AllByRecursion (λ a. a < k) ρ → In ρ (assignments n k)
 fits_listed zero k [] e h = inl refl
 fits_listed zero k (a ∷ ρ) e h = absurd (omega (arith, e))
 fits_listed (suc n) k [] e h = absurd (omega (arith, e))

@@ -1,7 +1,7 @@
 -- A map that carries one algebra to another carries figures.
 -- Assumes nothing.
 use Rattle.std.proofs.Common.{ℕ, zero, suc, ◌≤◌, List, [], ◌∷◌, get_or, arith}
-use Rattle.std.specs.List.{AllByRecursion as All}
+use Rattle.std.specs.List.{AllByRecursion}
 use Rattle.algebra.specs.Semiring.{Ops}
 use Rattle.figures.specs.Assignments.{assignments}
 use Rattle.figures.specs.Lists.{kept}
@@ -9,7 +9,7 @@ use Rattle.figures.specs.Figure.{weights, product, fits_all}
 use Rattle.figures.specs.Statements.{FiguresCarried}
 use Rattle.figures.proofs.Folds.{fold_carried}
 
-cost_small : (costs : List ℕ) → All (λ c. c ≤ 65535) costs → (a : ℕ) → get_or costs a 0 ≤ 65535
+cost_small : (costs : List ℕ) → AllByRecursion (λ c. c ≤ 65535) costs → (a : ℕ) → get_or costs a 0 ≤ 65535
 cost_small [] h a = omega arith
 cost_small (c ∷ costs) h zero = h.0
 cost_small (c ∷ costs) h (suc a) = cost_small costs h.1 a

@@ -1,7 +1,7 @@
 -- The rows of the check families hold: one test computes all of them.
 -- Assumes nothing.
 use Rattle.std.proofs.Common.{◌≡◌, ℕ, Bool, true, ◌&&◌, eqb, List, [], ◌∷◌, length, refl, subst}
-use Rattle.std.specs.List.{AllByRecursion as All}
+use Rattle.std.specs.List.{AllByRecursion}
 use Rattle.std.proofs.lemmas.Bool.{eqb-true, and_parts}
 use Rattle.algebra.specs.Count.{count_ops}
 use Rattle.algebra.specs.Least.{least_ops}
@@ -41,7 +41,7 @@ passed r t =
     let d = and_parts (eqb (best_numbers r) r.best.1) (eqb (named r) r.parts) c.1 in
     (eqb-true (counts r) r.count a.0, eqb-true (leasts r) r.least b.0, eqb-true (best_costs r) r.best.0 c.0, eqb-true (best_numbers r) r.best.1 d.0, subst (Parts (locus r).slots (links (locus r).readings)) (eqb-true (named r) r.parts d.1) (parts_named (locus r).slots (links (locus r).readings)))
 
-all_passed : (rs : List Row) → every passes rs ≡ true → All Holds rs
+all_passed : (rs : List Row) → every passes rs ≡ true → AllByRecursion Holds rs
 all_passed [] t = tt
 all_passed (r ∷ rs) t = let p = and_parts (passes r) (every passes rs) t in (passed r p.0, all_passed rs p.1)
 

@@ -1,7 +1,7 @@
 -- Small families whose figures are known by hand, in one table.
 -- Assumes nothing.
 use Rattle.std.specs.Prelude.{◌≡◌, ℕ, Bool, true, false, List, [], ◌∷◌, length}
-use Rattle.std.specs.List.{AllByRecursion as All}
+use Rattle.std.specs.List.{AllByRecursion}
 use Rattle.algebra.specs.Count.{count_ops}
 use Rattle.algebra.specs.Least.{least_ops}
 use Rattle.algebra.specs.Best.{best_ops}
@@ -94,4 +94,4 @@ rows =
 
 -- every row holds
 abbrev pub RowsHold : Type 0
-RowsHold = All Holds rows
+RowsHold = AllByRecursion Holds rows

@@ -1,7 +1,7 @@
 -- What is proved of the rules.
 -- Assumes nothing.
 use Rattle.std.specs.Prelude.{◌≡◌, ℕ, ◌<◌, ◌≤◌, Bool, ◌↔◌, List, length, ◌≢◌}
-use Rattle.std.specs.List.{AllByRecursion as All}
+use Rattle.std.specs.List.{AllByRecursion}
 use Rattle.readings.specs.declared.class.Class.TheVariants.{Several}
 use Rattle.algebra.specs.Semiring.{Ops}
 use Rattle.algebra.specs.Maps.{Carries}
@@ -13,12 +13,12 @@ use Rattle.figures.specs.Graph.{Parts, Component, Components, Sound, links, own,
 
 -- the assignments listed are exactly the lists of n alleles below k, and none is listed twice
 abbrev pub Listed : Type 0
-Listed = (n k : ℕ) → ((ρ : List ℕ) → In ρ (assignments n k) ↔ ((length ρ ≡ n) × All (λ a. a < k) ρ)) × Once (assignments n k)
+Listed = (n k : ℕ) → ((ρ : List ℕ) → In ρ (assignments n k) ↔ ((length ρ ≡ n) × AllByRecursion (λ a. a < k) ρ)) × Once (assignments n k)
 
 -- a map that carries one algebra to another carries the figure of every locus
 abbrev pub FiguresCarried : {V W : Type 0} → Ops V → Ops W → Type 0
 FiguresCarried {V} {W} o p =
-    (h : V → W) → Carries o p h → (costs : List ℕ) → All (λ c. c ≤ 65535) costs → (L : Locus) → h (figure o (weights o costs) L) ≡ figure p (weights p costs) L
+    (h : V → W) → Carries o p h → (costs : List ℕ) → AllByRecursion (λ c. c ≤ 65535) costs → (L : Locus) → h (figure o (weights o costs) L) ≡ figure p (weights p costs) L
 
 -- silencing persons adds to a figure exactly the excess
 abbrev pub ExcessAdded : {V : Type 0} → Ops V → Type 0

@@ -1,7 +1,7 @@
 -- What is seen through a mask.
 -- Assumes nothing.
 use Rattle.std.proofs.Common.{◌≡◌, ℕ, ◌≤◌, Bool, List, [], ◌∷◌, map, length, get_or, refl, ap, ◌∙◌}
-use Rattle.std.specs.List.{range_with_len, AllByRecursion as All}
+use Rattle.std.specs.List.{range_with_len, AllByRecursion}
 use Rattle.std.proofs.ByRecursion.{All-from_get_or, All-take}
 use Rattle.algebra.specs.Semiring.{Ops, Laws}
 use Rattle.readings.specs.Combined.{masked_class, masked_fits}
@@ -31,5 +31,5 @@ excess_through_mask o l w S h k locus class fits =
     ap (figure o w) (seen_masked S h k locus class fits) ∙ excess_added o l w S (seen h k (class locus) (fits locus))
 
 -- costs of 16 bits are costs
-pub costs_small : (costs : List ℕ) → ((i : ℕ) → get_or costs i 0 ≤ 65535) → All (λ c. c ≤ 65535) (alleles_of costs)
+pub costs_small : (costs : List ℕ) → ((i : ℕ) → get_or costs i 0 ≤ 65535) → AllByRecursion (λ c. c ≤ 65535) (alleles_of costs)
 costs_small costs h = All-take (λ c. c ≤ 65535) 16 costs (All-from_get_or (λ c. c ≤ 65535) costs 0 (λ i l. h i))

@@ -3,7 +3,7 @@ ghost use Rattle.std.specs.Prelude.{◌≡◌, ℕ, ◌-◌, ◌*◌, ◌^◌, �
 ghost use Rattle.pedigree.specs.Building.{persons_of};
 ghost use Rattle.pedigree.specs.Families.{founders_in};
 ghost use Rattle.pedigree.specs.Slots.{slots_of};
-ghost use Rattle.figures.specs.Figure.{weights, figure as figure-of};
+ghost use Rattle.figures.specs.Figure.{weights, figure as figure_of};
 ghost use Rattle.figures.specs.Graph.{Wide, Sound, has};
 ghost use Rattle.sums.specs.Gathering.{items};
 ghost use Rattle.sums.specs.Searching.{pair_of};
@@ -107,7 +107,7 @@ impl<M: Model> Site<'_, M> {
     // The product of the sums of all components.
     fn product<V: Algebra>(&self) -> V
         requires { length self.now.costs.now ≤ 16 }
-        ensures { result ≡ figure-of V.Algebra.operations (weights V.Algebra.operations self.now.costs.now) (seen self.now.held.now (length self.now.costs.now) (M.Model.classes self.now.model.now self.now.locus) (M.Model.fitting self.now.model.now self.now.locus)) }
+        ensures { result ≡ figure_of V.Algebra.operations (weights V.Algebra.operations self.now.costs.now) (seen self.now.held.now (length self.now.costs.now) (M.Model.classes self.now.model.now self.now.locus) (M.Model.fitting self.now.model.now self.now.locus)) }
     {
         let mut total = V::one();
         let mut gathered = [false; 64];
