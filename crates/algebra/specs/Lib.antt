@@ -13,3 +13,4 @@ pub mod BestSums
 pub mod CountLaws
 pub mod LeastLaws
 pub mod TruthLaws
+pub mod Printed

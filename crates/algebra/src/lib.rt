@@ -5,6 +5,7 @@ mod best;
 mod count;
 mod least;
 mod maps;
+mod printed;
 mod semiring;
 mod truth;
 mod values;
