@@ -1,10 +1,11 @@
 // Families: 64 persons, 32 founders, parents before their children, at least one person.
-use crate::told::{of_family, print_answer};
+use crate::told::print_answer;
 use pedigree::{FamilyBuilder, FamilyFault};
+use refusal::Refusal;
 use std::io;
 
 // One call on a builder.
-#[derive(Clone, Copy)]
+#[derive(Clone, Copy, PartialEq, Eq, Debug)]
 enum Call {
     Founder,
     Child(usize, usize),
@@ -104,23 +105,24 @@ pub(crate) fn entered(founders: usize, children: usize) -> Result<FamilyBuilder,
     Ok(builder)
 }
 
-fn answered(case: &Case) -> Result<usize, FamilyFault> {
+fn answered(case: &Case) -> Result<usize, Refusal> {
     let mut builder = entered(case.founders, case.children)?;
-    match case.call {
-        Call::Founder => builder.founder(),
-        Call::Child(mother, father) => builder.child(mother, father),
-    }
+    let number = match case.call {
+        Call::Founder => builder.founder()?,
+        Call::Child(mother, father) => builder.child(mother, father)?,
+    };
+    Ok(number)
 }
 
-fn closed_with(founders: usize) -> Result<usize, FamilyFault> {
+fn closed_with(founders: usize) -> Result<usize, Refusal> {
     let family = entered(founders, 0)?.close()?;
     Ok(family.count())
 }
 
 pub(crate) fn run(rt: &HostRuntime) -> io::Result<()> {
-    for case in CASES.iter() {
-        print_answer(rt, case.name, of_family(answered(case)))?;
+    for case in CASES {
+        print_answer(rt, case.name, answered(case))?;
     }
-    print_answer(rt, "a family of nobody", of_family(closed_with(0)))?;
-    print_answer(rt, "a family of one person", of_family(closed_with(1)))
+    print_answer(rt, "a family of nobody", closed_with(0))?;
+    print_answer(rt, "a family of one person", closed_with(1))
 }

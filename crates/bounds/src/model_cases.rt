@@ -1,5 +1,4 @@
 // Models over models: two panels at the locus where they meet and at the last, and a mask at the last person.
-use readings::class::Class;
 use readings::codominant::Codominant;
 use readings::dominant::Dominant;
 use readings::mask::Mask;
@@ -111,19 +110,13 @@ fn fit_name(fits: bool) -> &'static str {
     if fits { "fit" } else { "break" }
 }
 
-fn ask<M: Model>(
-    rt: &HostRuntime,
-    name: &str,
-    model: &M,
-    locus: usize,
-    person: usize,
-) -> io::Result<()> {
-    let fits = fit_name(model.fits(locus, person, 1, 1));
-    match model.class(locus, person) {
-        Class::Silent => println!(rt; "{name}: silent, 1 1 {fits}"),
-        Class::Named(a, b) => println!(rt; "{name}: named {a} {b}, 1 1 {fits}"),
-        Class::Several => println!(rt; "{name}: several, 1 1 {fits}"),
+fn ask<M: Model>(rt: &HostRuntime, model: &M, questions: &[Question]) -> io::Result<()> {
+    for question in questions {
+        let class = model.class(question.locus, question.person);
+        let fits = fit_name(model.fits(question.locus, question.person, 1, 1));
+        println!(rt; "{}: {class}, 1 1 {fits}", question.name)?;
     }
+    Ok(())
 }
 
 fn ask_panels(rt: &HostRuntime, split: usize, questions: &[Question]) -> io::Result<()> {
@@ -134,10 +127,7 @@ fn ask_panels(rt: &HostRuntime, split: usize, questions: &[Question]) -> io::Res
         },
         second: Dominant { table: &SHOWS },
     };
-    for question in questions.iter() {
-        ask(rt, question.name, &model, question.locus, question.person)?;
-    }
-    Ok(())
+    ask(rt, &model, questions)
 }
 
 fn ask_mask(rt: &HostRuntime) -> io::Result<()> {
@@ -150,10 +140,7 @@ fn ask_mask(rt: &HostRuntime) -> io::Result<()> {
         },
         silenced,
     };
-    for question in AT_MASK.iter() {
-        ask(rt, question.name, &model, question.locus, question.person)?;
-    }
-    Ok(())
+    ask(rt, &model, AT_MASK)
 }
 
 pub(crate) fn run(rt: &HostRuntime) -> io::Result<()> {

@@ -1,5 +1,6 @@
 // Panels: 1 to 8 loci, 1 to 16 alleles, as many costs as alleles, costs up to 65,535; codominant loci before dominant ones.
-use crate::told::{of_readings, print_answer, print_number};
+use crate::told::{print_answer, print_number};
+use refusal::Refusal;
 use std::io;
 use study::{Panel, PanelBuilder, ReadingsFault};
 
@@ -95,53 +96,59 @@ pub(crate) fn plain(loci: usize) -> Result<PanelBuilder, ReadingsFault> {
     Ok(builder)
 }
 
-fn answered(case: &Case) -> Result<usize, ReadingsFault> {
+fn answered(case: &Case) -> Result<usize, Refusal> {
     let mut builder = plain(case.before)?;
-    builder.locus(case.alleles, case.costs)
+    Ok(builder.locus(case.alleles, case.costs)?)
 }
 
-fn closed_with(loci: usize) -> Result<usize, ReadingsFault> {
+fn closed_with(loci: usize) -> Result<usize, Refusal> {
     let panel = plain(loci)?.close()?;
     Ok(panel.count())
 }
 
 // How many loci there are after a ninth was refused.
-fn after_a_ninth() -> Result<usize, ReadingsFault> {
+fn after_a_ninth() -> Result<usize, Refusal> {
     let mut builder = plain(8)?;
-    let _ = builder.locus(1, &[0]);
+    let _ninth = builder.locus(1, &[0]);
     Ok(builder.count())
 }
 
-// A panel of three loci, with dominant ones from the third on if they begin there.
-pub(crate) fn three(dominant: bool) -> Result<PanelBuilder, ReadingsFault> {
+// What the last of three loci is.
+#[derive(Clone, Copy, PartialEq, Eq, Debug)]
+pub(crate) enum Last {
+    Codominant,
+    Dominant,
+}
+
+// A panel of three loci. Before and behind a dominant one dominant loci begin.
+pub(crate) fn three(last: Last) -> Result<PanelBuilder, ReadingsFault> {
     let mut builder = PanelBuilder::new();
     builder.locus(3, &[5, 1, 2])?;
     builder.locus(
         16,
         &[0, 1, 2, 3, 4, 5, 6, 7, 8, 9, 10, 11, 12, 13, 14, 65535],
     )?;
-    if dominant {
+    if last == Last::Dominant {
         builder.begin_dominant();
     }
     builder.locus(2, &[3, 1])?;
-    if dominant {
+    if last == Last::Dominant {
         builder.begin_dominant();
     }
     Ok(builder)
 }
 
-fn codominants(dominant: bool) -> Result<usize, ReadingsFault> {
-    let panel = three(dominant)?.close()?;
-    Ok(panel.codominants())
+fn closed_three(last: Last) -> Result<Panel, Refusal> {
+    Ok(three(last)?.close()?)
+}
+
+fn codominants(last: Last) -> Result<usize, Refusal> {
+    Ok(closed_three(last)?.codominants())
 }
 
 // The last cost of a locus.
 fn last_cost(panel: &Panel, locus: usize) -> Option<usize> {
-    let costs = panel.costs(locus)?;
-    match costs {
-        [.., last] => Some(*last as usize),
-        [] => None,
-    }
+    panel.costs(locus)?.last().map(|cost| usize::from(*cost))
 }
 
 fn print_loci(rt: &HostRuntime, panel: &Panel) -> io::Result<()> {
@@ -153,30 +160,26 @@ fn print_loci(rt: &HostRuntime, panel: &Panel) -> io::Result<()> {
     print_number(rt, "last cost of locus 3 of three", last_cost(panel, 3))
 }
 
-fn closed_three() -> Result<Panel, ReadingsFault> {
-    three(true)?.close()
-}
-
 pub(crate) fn run(rt: &HostRuntime) -> io::Result<()> {
-    for case in CASES.iter() {
-        print_answer(rt, case.name, of_readings(answered(case)))?;
+    for case in CASES {
+        print_answer(rt, case.name, answered(case))?;
     }
-    print_answer(rt, "loci after a refused 9th", of_readings(after_a_ninth()))?;
-    print_answer(rt, "a panel without a locus", of_readings(closed_with(0)))?;
-    print_answer(rt, "a panel of one locus", of_readings(closed_with(1)))?;
-    print_answer(rt, "a panel of eight loci", of_readings(closed_with(8)))?;
+    print_answer(rt, "loci after a refused 9th", after_a_ninth())?;
+    print_answer(rt, "a panel without a locus", closed_with(0))?;
+    print_answer(rt, "a panel of one locus", closed_with(1))?;
+    print_answer(rt, "a panel of eight loci", closed_with(8))?;
     print_answer(
         rt,
         "codominant loci where none is dominant",
-        of_readings(codominants(false)),
+        codominants(Last::Codominant),
     )?;
     print_answer(
         rt,
         "codominant loci where dominant ones begin at locus 2",
-        of_readings(codominants(true)),
+        codominants(Last::Dominant),
     )?;
-    match closed_three() {
+    match closed_three(Last::Dominant) {
         Ok(panel) => print_loci(rt, &panel),
-        Err(fault) => print_answer(rt, "three loci", Err(fault.refusal())),
+        Err(refusal) => print_answer(rt, "three loci", Err(refusal)),
     }
 }

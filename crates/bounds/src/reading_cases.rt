@@ -1,11 +1,11 @@
 // Readings: the numbers that a locus has, one reading of a person at a locus, and the order in which a reading is refused.
 use crate::family_cases::entered;
-use crate::panel_cases::{plain, three};
+use crate::panel_cases::{Last, plain, three};
 use crate::told::{print_number, print_refusal};
 use pedigree::Family;
 use refusal::Refusal;
 use std::io;
-use study::{PanelBuilder, Tables};
+use study::{PanelBuilder, ReadingsFault, Tables};
 
 // A reading that is entered.
 struct Case {
@@ -179,14 +179,40 @@ const LARGE: &[Case] = &[
     },
 ];
 
-fn family_of(founders: usize, children: usize) -> Result<Family, Refusal> {
-    match entered(founders, children) {
-        Err(fault) => Err(fault.refusal()),
-        Ok(builder) => match builder.close() {
-            Ok(family) => Ok(family),
-            Err(fault) => Err(fault.refusal()),
-        },
-    }
+// A study: its family of so many founders and selfed children of the first, the readings that are entered, each behind those before it, and the places of
+// the bytes that are told in the end.
+struct Study {
+    family_name: &'static str,
+    founders: usize,
+    children: usize,
+    panel_name: &'static str,
+    cases: &'static [Case],
+    codominant_places: &'static [usize],
+    dominant_places: &'static [usize],
+}
+
+const SMALL_STUDY: Study = Study {
+    family_name: "a family of 4 persons",
+    founders: 2,
+    children: 2,
+    panel_name: "a panel of 3 loci",
+    cases: SMALL,
+    codominant_places: &[0, 1, 64, 65, 66, 129],
+    dominant_places: &[0, 1, 2, 129],
+};
+
+const LARGE_STUDY: Study = Study {
+    family_name: "a family of 64 persons",
+    founders: 1,
+    children: 63,
+    panel_name: "a panel of 8 loci",
+    cases: LARGE,
+    codominant_places: &[510, 511],
+    dominant_places: &[],
+};
+
+fn family_of(study: &Study) -> Result<Family, Refusal> {
+    Ok(entered(study.founders, study.children)?.close()?)
 }
 
 fn print_case(
@@ -199,72 +225,45 @@ fn print_case(
     let name = case.name;
     match tables.enter(panel, family, case.locus, case.person, case.number) {
         Ok(()) => println!(rt; "{name}: taken"),
-        Err(fault) => print_refusal(rt, name, fault.refusal()),
+        Err(fault) => print_refusal(rt, name, fault.into()),
     }
 }
 
-fn byte_at(table: &[u8], place: usize) -> Option<usize> {
-    if place < table.len() {
-        Some(table[place] as usize)
-    } else {
-        None
+fn print_bytes(rt: &HostRuntime, kind: &str, table: &[u8], places: &[usize]) -> io::Result<()> {
+    for place in places {
+        print!(rt; "{kind} byte {place}")?;
+        print_number(rt, "", table.get(*place).map(|byte| usize::from(*byte)))?;
     }
+    Ok(())
 }
 
-fn run_small(rt: &HostRuntime, panel: &PanelBuilder, family: &Family) -> io::Result<()> {
+fn enter_all(
+    rt: &HostRuntime,
+    study: &Study,
+    panel: &PanelBuilder,
+    family: &Family,
+) -> io::Result<()> {
     let mut tables = Tables::new();
-    for case in SMALL.iter() {
+    for case in study.cases {
         print_case(rt, &mut tables, panel, family, case)?;
     }
-    print_small(rt, &tables)
+    print_bytes(rt, "codominant", tables.codominant(), study.codominant_places)?;
+    print_bytes(rt, "dominant", tables.dominant(), study.dominant_places)
 }
 
-fn print_small(rt: &HostRuntime, tables: &Tables) -> io::Result<()> {
-    let codominant = tables.codominant();
-    let dominant = tables.dominant();
-    print_number(rt, "codominant byte 0", byte_at(codominant, 0))?;
-    print_number(rt, "codominant byte 1", byte_at(codominant, 1))?;
-    print_number(rt, "codominant byte 64", byte_at(codominant, 64))?;
-    print_number(rt, "codominant byte 65", byte_at(codominant, 65))?;
-    print_number(rt, "codominant byte 66", byte_at(codominant, 66))?;
-    print_number(rt, "codominant byte 129", byte_at(codominant, 129))?;
-    print_number(rt, "dominant byte 0", byte_at(dominant, 0))?;
-    print_number(rt, "dominant byte 1", byte_at(dominant, 1))?;
-    print_number(rt, "dominant byte 2", byte_at(dominant, 2))?;
-    print_number(rt, "dominant byte 129", byte_at(dominant, 129))
-}
-
-fn run_large(rt: &HostRuntime, panel: &PanelBuilder, family: &Family) -> io::Result<()> {
-    let mut tables = Tables::new();
-    for case in LARGE.iter() {
-        print_case(rt, &mut tables, panel, family, case)?;
-    }
-    let codominant = tables.codominant();
-    print_number(rt, "codominant byte 510", byte_at(codominant, 510))?;
-    print_number(rt, "codominant byte 511", byte_at(codominant, 511))
-}
-
-fn read_small(rt: &HostRuntime, panel: &PanelBuilder) -> io::Result<()> {
-    match family_of(2, 2) {
-        Ok(family) => run_small(rt, panel, &family),
-        Err(refusal) => print_refusal(rt, "a family of 4 persons", refusal),
-    }
-}
-
-fn read_large(rt: &HostRuntime, panel: &PanelBuilder) -> io::Result<()> {
-    match family_of(1, 63) {
-        Ok(family) => run_large(rt, panel, &family),
-        Err(refusal) => print_refusal(rt, "a family of 64 persons", refusal),
+fn run_study(
+    rt: &HostRuntime,
+    study: &Study,
+    panel: Result<PanelBuilder, ReadingsFault>,
+) -> io::Result<()> {
+    match (panel, family_of(study)) {
+        (Ok(panel), Ok(family)) => enter_all(rt, study, &panel, &family),
+        (Ok(_), Err(refusal)) => print_refusal(rt, study.family_name, refusal),
+        (Err(fault), _) => print_refusal(rt, study.panel_name, fault.into()),
     }
 }
 
 pub(crate) fn run(rt: &HostRuntime) -> io::Result<()> {
-    match three(true) {
-        Ok(panel) => read_small(rt, &panel)?,
-        Err(fault) => print_refusal(rt, "a panel of 3 loci", fault.refusal())?,
-    }
-    match plain(8) {
-        Ok(panel) => read_large(rt, &panel),
-        Err(fault) => print_refusal(rt, "a panel of 8 loci", fault.refusal()),
-    }
+    run_study(rt, &SMALL_STUDY, three(Last::Dominant))?;
+    run_study(rt, &LARGE_STUDY, plain(8))
 }

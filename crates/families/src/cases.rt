@@ -1,8 +1,8 @@
 // The families, each with its meiosis bits, its readings at one locus and the costs of the alleles.
 use pedigree::Person;
 
-// How the bytes are read.
-#[derive(Clone, Copy)]
+// How the bytes of the one locus are read.
+#[derive(Clone, Copy, PartialEq, Eq, Debug)]
 pub enum Reader {
     Codominant,
     Dominant,

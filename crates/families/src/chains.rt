@@ -91,13 +91,9 @@ pub(crate) fn chained(chain: &Chain) -> Result<Family, FamilyFault> {
     for _ in 0..chain.founders {
         builder.founder()?;
     }
-    let mut mother = 0usize;
-    for _ in 0..chain.children {
-        builder.child(mother, mother.saturating_add(1))?;
-        mother = mother.saturating_add(1);
-        if mother.saturating_add(1) >= chain.founders {
-            mother = 0;
-        }
+    let neighbours = (0..chain.founders).zip(1..chain.founders);
+    for (mother, father) in neighbours.cycle().take(chain.children) {
+        builder.child(mother, father)?;
     }
     builder.close()
 }
@@ -105,9 +101,9 @@ pub(crate) fn chained(chain: &Chain) -> Result<Family, FamilyFault> {
 // The bytes of its persons.
 pub(crate) fn bytes_of(chain: &Chain) -> [u8; 64] {
     let mut bytes = [255; 64];
-    for person in 0..64 {
+    for (person, byte) in bytes.iter_mut().enumerate() {
         if person < chain.founders_read || person >= chain.founders {
-            bytes[person] = chain.byte;
+            *byte = chain.byte;
         }
     }
     bytes

@@ -5,7 +5,9 @@
 mod cases;
 mod chains;
 mod figures_line;
+mod unanswered;
 
+use algebra::Count;
 use cases::{CASES, Case, Reader};
 use chains::{CHAINS, Chain, bytes_of, chained};
 use enumeration::figure_by_enumeration;
@@ -15,8 +17,10 @@ use pedigree::{Family, FamilyBuilder, FamilyFault, Meiosis, Person, Side};
 use readings::codominant::Codominant;
 use readings::dominant::Dominant;
 use readings::model::Model;
+use readings::two_panels::TwoPanels;
 use std::io;
 use sums::{Held, WideLocus, figure};
+use unanswered::Unanswered;
 
 // What is read at a locus, and the costs of its alleles.
 #[derive(Drop)]
@@ -24,6 +28,20 @@ struct Reading<'a> {
     reader: Reader,
     bytes: &'a [u8],
     costs: &'a [u16],
+}
+
+impl Reading<'_> {
+    // The model of its one locus: the first panel's where it is codominant, else the second's.
+    fn model(&self) -> TwoPanels<Codominant<'_>, Dominant<'_>> {
+        TwoPanels {
+            split: match self.reader {
+                Reader::Codominant => 1,
+                Reader::Dominant => 0,
+            },
+            first: Codominant { table: self.bytes },
+            second: Dominant { table: self.bytes },
+        }
+    }
 }
 
 fn family_of(persons: &[Person]) -> Result<Family, FamilyFault> {
@@ -43,87 +61,56 @@ fn bits_of(turned: Option<usize>) -> [Meiosis; 64] {
         paternal: false,
     };
     let mut bits = [straight; 64];
-    if let Some(person) = turned {
-        if person < 64 {
-            let bit = bits[person];
-            bits[person] = bit.turned(Side::Paternal);
-        }
+    if let Some(person) = turned
+        && let Some(meiosis) = bits.get_mut(person)
+    {
+        *meiosis = meiosis.turned(Side::Paternal);
     }
     bits
 }
 
 fn figures_of<M: Model>(held: &Held, model: &M, costs: &[u16]) -> Result<Figures, WideLocus> {
-    let count = figure(held, model, 0, costs)?;
-    let least = figure(held, model, 0, costs)?;
-    let best = figure(held, model, 0, costs)?;
-    let parts = parts(held, model, 0);
     Ok(Figures {
-        count,
-        least,
-        best,
-        parts,
+        count: figure(held, model, 0, costs)?,
+        least: figure(held, model, 0, costs)?,
+        best: figure(held, model, 0, costs)?,
+        parts: parts(held, model, 0),
     })
 }
 
 fn worked_out(
-    family: &Family,
-    bits: &[Meiosis; 64],
+    family: Result<Family, FamilyFault>,
+    turned: Option<usize>,
     reading: &Reading,
-) -> Result<Figures, WideLocus> {
-    let held = Held::of(family, bits);
-    match reading.reader {
-        Reader::Codominant => figures_of(
-            &held,
-            &Codominant {
-                table: reading.bytes,
-            },
-            reading.costs,
-        ),
-        Reader::Dominant => figures_of(
-            &held,
-            &Dominant {
-                table: reading.bytes,
-            },
-            reading.costs,
-        ),
-    }
+) -> Result<Figures, Unanswered> {
+    let held = Held::of(&family?, &bits_of(turned));
+    Ok(figures_of(&held, &reading.model(), reading.costs)?)
 }
 
 fn print_figures(
     rt: &HostRuntime,
     name: &str,
-    family: Result<Family, FamilyFault>,
-    bits: &[Meiosis; 64],
-    reading: &Reading,
+    figures: Result<Figures, Unanswered>,
 ) -> io::Result<()> {
-    match family {
-        Ok(family) => match worked_out(&family, bits, reading) {
-            Ok(figures) => println!(rt; "{name}: {figures}"),
-            Err(wide) => {
-                let locus = wide.locus;
-                println!(rt; "{name}: locus {locus} is wide")
-            }
-        },
-        Err(fault) => {
-            let number = fault.refusal().number;
-            println!(rt; "{name}: refused {number}")
+    match figures {
+        Ok(figures) => println!(rt; "{name}: {figures}"),
+        Err(unanswered) => println!(rt; "{name}: {unanswered}"),
+    }
+}
+
+impl Case {
+    fn reading(&self) -> Reading<'_> {
+        Reading {
+            reader: self.reader,
+            bytes: self.bytes,
+            costs: self.costs,
         }
     }
 }
 
 fn print_case(rt: &HostRuntime, case: &Case) -> io::Result<()> {
-    let reading = Reading {
-        reader: case.reader,
-        bytes: case.bytes,
-        costs: case.costs,
-    };
-    print_figures(
-        rt,
-        case.name,
-        family_of(case.persons),
-        &bits_of(case.turned),
-        &reading,
-    )
+    let figures = worked_out(family_of(case.persons), case.turned, &case.reading());
+    print_figures(rt, case.name, figures)
 }
 
 fn print_chain(rt: &HostRuntime, chain: &Chain) -> io::Result<()> {
@@ -133,37 +120,19 @@ fn print_chain(rt: &HostRuntime, chain: &Chain) -> io::Result<()> {
         bytes: &bytes,
         costs: chain.costs,
     };
-    print_figures(rt, chain.name, chained(chain), &bits_of(None), &reading)
+    print_figures(rt, chain.name, worked_out(chained(chain), None, &reading))
 }
 
 // The count of a case once more, by trying every assignment.
-fn witness(case: &Case) -> Option<u32> {
-    let Ok(family) = family_of(case.persons) else {
-        return None;
-    };
+fn witness(case: &Case) -> Option<Count> {
+    let family = family_of(case.persons).ok()?;
     let bits = bits_of(case.turned);
-    let count: algebra::Count = match case.reader {
-        Reader::Codominant => figure_by_enumeration(
-            &family,
-            &bits,
-            &Codominant { table: case.bytes },
-            0,
-            case.costs,
-        )?,
-        Reader::Dominant => figure_by_enumeration(
-            &family,
-            &bits,
-            &Dominant { table: case.bytes },
-            0,
-            case.costs,
-        )?,
-    };
-    Some(count.number)
+    figure_by_enumeration(&family, &bits, &case.reading().model(), 0, case.costs)
 }
 
 fn print_witnesses(rt: &HostRuntime) -> io::Result<()> {
     print!(rt; "counted one by one:")?;
-    for case in CASES.iter() {
+    for case in CASES {
         match witness(case) {
             Some(count) => print!(rt; " {count}")?,
             None => print!(rt; " -")?,
@@ -173,11 +142,11 @@ fn print_witnesses(rt: &HostRuntime) -> io::Result<()> {
 }
 
 fn main(rt: HostRuntime) -> io::Result<()> {
-    for case in CASES.iter() {
+    for case in CASES {
         print_case(&rt, case)?;
     }
     print_witnesses(&rt)?;
-    for chain in CHAINS.iter() {
+    for chain in CHAINS {
         print_chain(&rt, chain)?;
     }
     Ok(())

@@ -1,0 +1,32 @@
+// Why a case has no figures.
+use pedigree::FamilyFault;
+use std::fmt;
+use sums::WideLocus;
+
+// The family was refused, or the locus is wide.
+#[derive(Clone, Copy, PartialEq, Eq, Debug)]
+pub enum Unanswered {
+    Refused(FamilyFault),
+    Wide(WideLocus),
+}
+
+impl From<FamilyFault> for Unanswered {
+    fn from(fault: FamilyFault) -> Unanswered {
+        Unanswered::Refused(fault)
+    }
+}
+
+impl From<WideLocus> for Unanswered {
+    fn from(wide: WideLocus) -> Unanswered {
+        Unanswered::Wide(wide)
+    }
+}
+
+impl fmt::Display for Unanswered {
+    fn fmt<W: fmt::Write>(&self, f: &mut fmt::Formatter<W>) -> fmt::Result {
+        match *self {
+            Unanswered::Refused(fault) => write!(f, "refused {}", fault.refusal().number),
+            Unanswered::Wide(wide) => write!(f, "locus {} is wide", wide.locus),
+        }
+    }
+}
