@@ -27,8 +27,8 @@ module _ (b : FamilyBuilder) (n : ℕ) (x : Person) (next : n ≡ b.count) (room
   entered_more : take (b.count + 1) (set b.persons n x) ≡ entered b ++ x ∷ []
   entered_more = ap (λ k. take (b.count + 1) (set b.persons k x)) next ∙ take_more_set b.persons b.count x (omega arith)
 
-  pub counted_more : b.founders + founders_in (x ∷ []) ≡ founders_in (take (b.count + 1) (set b.persons n x))
-  counted_more = omega (arith, ap founders_in entered_more, founders_in_push (entered b) x)
+  pub counted_more : (k : ℕ) → k ≡ b.founders + founders_in (x ∷ []) → k ≡ founders_in (take (b.count + 1) (set b.persons n x))
+  counted_more k counted = omega (arith, ap founders_in entered_more, founders_in_push (entered b) x)
 
   pub lawful_more : b.founders + founders_in (x ∷ []) ≤ 32 → parents_below n x ≡ true → Lawful (take (b.count + 1) (set b.persons n x))
   lawful_more few here =

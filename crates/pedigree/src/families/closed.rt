@@ -1,7 +1,7 @@
 // What a closed family tells of itself.
-ghost use Rattle.std.specs.Prelude.{◌≡◌, ◌*◌, length};
+ghost use Rattle.std.specs.Prelude.{◌≡◌, ◌*◌, length, slice_get};
 ghost use Rattle.pedigree.specs.Families.{founders_in};
-ghost use Rattle.pedigree.specs.Building.{persons_of, person_answer};
+ghost use Rattle.pedigree.specs.Building.{persons_of};
 
 use crate::families::Family;
 use crate::persons::Person;
@@ -37,7 +37,7 @@ impl Family {
 
     // The person of a number, if the family has it.
     pub fn person(&self, number: usize) -> Option<Person>
-        ensures { result ≡ person_answer (persons_of self.now) number }
+        ensures { result ≡ slice_get (persons_of self.now) number }
     {
         self.persons().get(number).copied()
     }

@@ -1,8 +1,8 @@
 // The founder slots of each person of a closed family, under the meiosis bits of a locus.
-ghost use Rattle.std.specs.Prelude.{◌≡◌, ◌-◌, ◌*◌, ◌<◌, true, ◌++◌, length, take, replicate};
+ghost use Rattle.std.specs.Prelude.{◌≡◌, ◌-◌, ◌*◌, ◌<◌, ◌++◌, length, take, replicate, IsTrue, slice_get};
 ghost use Rattle.pedigree.specs.Families.{founders_in, parents_below};
 ghost use Rattle.pedigree.specs.Building.{persons_of};
-ghost use Rattle.pedigree.specs.Slots.{taken, held_by, slots_of, Descent, SlotsBelow, DescentStands, DescentSettled, slots_answer};
+ghost use Rattle.pedigree.specs.Slots.{taken, held_by, slots_of, Descent, SlotsBelow, DescentStands, DescentSettled};
 
 use crate::families::{Family, PERSONS};
 use crate::persons::{Meiosis, Person};
@@ -23,7 +23,7 @@ fn held_by(
     before: &[(usize, usize)],
 ) -> (usize, usize)
     requires few { founders < 64 }
-    requires below { parents_below (length before.now) person ≡ true }
+    requires below { IsTrue (parents_below (length before.now) person) }
     ensures { result ≡ held_by founders bits before.now person }
 {
     match person {
@@ -64,7 +64,7 @@ impl Family {
 
     // The two slots of a person, maternal first, if the family has it.
     pub fn slots(&self, bits: &[Meiosis; PERSONS], person: usize) -> Option<(usize, usize)>
-        ensures { result ≡ slots_answer (persons_of self.now) bits.now person }
+        ensures { result ≡ slice_get (slots_of (persons_of self.now) bits.now) person }
     {
         let slots = self.all_slots(bits);
         slots[..self.count()].get(person).copied()
