@@ -38,7 +38,7 @@ module _ (b : FamilyBuilder) (n : ℕ) (x : Person) (next : n ≡ b.count) (room
 
 -- a closed family is lawful, and has a person
 pub family_lawful : (f : Family) → Lawful (persons_of f)
-family_lawful f = f.entered.lawful
+family_lawful f = f.builder.lawful
 
 pub family_some : (f : Family) → 0 < length (persons_of f)
-family_some f = let b = f.entered in let some = f.some in omega (arith, length-take-le b.count b.persons (omega arith))
+family_some f = let b = f.builder in let some = f.some in omega (arith, length-take-le b.count b.persons (omega arith))

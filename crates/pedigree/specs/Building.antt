@@ -13,7 +13,7 @@ entered b = take b.count b.persons
 
 -- the persons of a closed family
 abbrev pub persons_of : Family → List Person
-persons_of f = entered f.entered
+persons_of f = entered f.builder
 
 -- entering a founder: refused as a 65th person, then as a 33rd founder, else answered by its number
 abbrev pub founder_answer : List Person → Result ℕ FamilyFault

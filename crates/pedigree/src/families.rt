@@ -15,7 +15,7 @@ pub const PERSONS: usize = 64;
 pub const FOUNDERS: usize = 32;
 
 // A family that is being entered, person by person. It stays Copy and takes no heap, so its persons stand in fixed memory with their count beside them.
-#[derive(Clone, Copy)]
+#[derive(Clone, Copy, PartialEq, Eq, Debug)]
 pub struct FamilyBuilder {
     persons: [Person; PERSONS],
     count: usize,
@@ -27,8 +27,8 @@ pub struct FamilyBuilder {
 }
 
 // A closed family: it has at least one person, and changes no more.
-#[derive(Clone, Copy)]
+#[derive(Clone, Copy, PartialEq, Eq, Debug)]
 pub struct Family {
-    entered: FamilyBuilder,
-    ghost some: { 0 < entered.count },
+    builder: FamilyBuilder,
+    ghost some: { 0 < builder.count },
 }

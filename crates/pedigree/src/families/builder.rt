@@ -74,6 +74,6 @@ impl FamilyBuilder {
         if self.count == 0 {
             return Err(FamilyFault::NoPerson);
         }
-        Ok(Family { entered: *self })
+        Ok(Family { builder: *self })
     }
 }

@@ -11,7 +11,7 @@ impl Family {
     pub fn persons(&self) -> &[Person]
         ensures { result.now ≡ persons_of self.now }
     {
-        self.entered.persons()
+        self.builder.persons()
     }
 
     // How many persons it has.
@@ -25,7 +25,7 @@ impl Family {
     pub fn founders(&self) -> usize
         ensures { result ≡ founders_in (persons_of self.now) }
     {
-        self.entered.founders
+        self.builder.founders
     }
 
     // How many founder slots there are: two for each founder.

@@ -45,7 +45,7 @@ pub fn descent_is_settled() -> u8
 }
 
 impl Family {
-    // The two slots of every person, maternal first; (0, 0) past the last.
+    // The two slots of every person, maternal first; (0, 0) past the last, since the answer takes no heap and has a fixed size.
     pub fn all_slots(&self, bits: &[Meiosis; PERSONS]) -> [(usize, usize); PERSONS]
         ensures value { result ≡ slots_of (persons_of self.now) bits.now ++ replicate (64 - length (persons_of self.now)) (0, 0) }
         ensures descent { Descent (persons_of self.now) bits.now (take (length (persons_of self.now)) result) }

@@ -26,7 +26,7 @@ loop-number-preserved c =
       | then-eq w ↦ let is : x ≡ Founder = search rules in rw is w.founders-is
       | else-eq w ↦ let other : x ≢ Founder = search rules in omega (arith, no_founder x other, w.founders-is)
     ] in
-    rw held (telling_more ps c.args.bits.now l.slots l.founders l.number l.invariant c.if-eq.founders x c.args.self.now.entered.lawful.0 (omega (arith, ap length lent)) refl count_on)
+    rw held (telling_more ps c.args.bits.now l.slots l.founders l.number l.invariant c.if-eq.founders x c.args.self.now.builder.lawful.0 (omega (arith, ap length lent)) refl count_on)
 
 pub returns : goal.returns
 returns c =
@@ -35,7 +35,7 @@ returns c =
     let l = c.loop-number in
     let lent : c.persons-person-items.result.now ≡ ps = c.persons-person-items.ensures in
     let told = telling_all ps bs l.slots l.founders l.number l.invariant (omega (arith, ap length lent)) in
-    let stands = descent_stands ps bs c.args.self.now.entered.lawful.2 in
+    let stands = descent_stands ps bs c.args.self.now.builder.lawful.2 in
     record {
       value = told.1;
       descent = subst (Descent ps bs) (sym told.0) stands.0;
