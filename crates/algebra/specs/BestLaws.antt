@@ -3,13 +3,14 @@
 use Rattle.std.specs.Prelude.{◌≡◌, ℕ, ◌+◌, ◌*◌, ◌<◌, ◌≤◌, min, cond, ◌⊎◌, ◌==◌, nat_lt, refl}
 use Rattle.std.proofs.Common.{sym, ap, ap₂, ◌∙◌, inl, inr, add_comm, mul_comm, mul-pos, zero-add, one-mul, arith}
 use Rattle.std.proofs.Math.Nat.{min_comm}
-use Rattle.std.proofs.lemmas.Bool.{cases_lt, cond_both, cond-true, cond-false, lt-ltb, le-ltb, ne_eqb}
+use Rattle.std.proofs.lemmas.Bool.{cases_lt, cond_both, cond-true, cond-false, lt-ltb, le-ltb}
+use Rattle.std.proofs.lemmas.Bool.Decides.{nat_tests}
 use Rattle.algebra.specs.Semiring.{Laws}
 use Rattle.algebra.specs.Best.{ranked, reaching, best_ops}
 use Rattle.algebra.specs.declared.values.Best.{Best}
 use Rattle.algebra.specs.Same.{same_best}
 use Rattle.algebra.specs.Caps.{cut, cut_assoc, cut_product_assoc, cut_distributes}
-use Rattle.algebra.specs.BestSums.{live, dead, ranked_live, ranked_dead, reaching_own, reaching_less, sum_is, product_is, reaching_sum, reaching_product}
+use Rattle.algebra.specs.BestSums.{live, dead, ranked_live, ranked_dead, reaching_own, sum_is, product_is, reaching_sum, reaching_product}
 
 sum_assoc : (x y z : Best) → best_ops.sum (best_ops.sum x y) z ≡ best_ops.sum x (best_ops.sum y z)
 sum_assoc x y z =
@@ -150,49 +151,8 @@ best_laws = record {
   absorbs = absorbs;
 }
 
--- what the code answers, case by case
-module _ (x y : Best) where
-  pub sum_first : x.cost < y.cost → x ≡ best_ops.sum x y
-  sum_first h =
-      let s = sum_is x y in
-      let m : ℕ = min x.cost y.cost in
-      let a = reaching_own x m (omega arith) in
-      let b = reaching_less y m (omega arith) in
-      same_best _ _ (omega (arith, s.0)) (omega (arith, s.1, a, b, x.counted))
-
-  pub sum_second : y.cost < x.cost → y ≡ best_ops.sum x y
-  sum_second h =
-      let s = sum_is x y in
-      let m : ℕ = min x.cost y.cost in
-      let a = reaching_own y m (omega arith) in
-      let b = reaching_less x m (omega arith) in
-      same_best _ _ (omega (arith, s.0)) (omega (arith, s.1, a, b, y.counted))
-
-  pub sum_tied : x.cost ≡ y.cost → (z : Best) → z.cost ≡ x.cost → z.number ≡ cut (x.number + y.number) → z ≡ best_ops.sum x y
-  sum_tied e z p q =
-      let s = sum_is x y in
-      let m : ℕ = min x.cost y.cost in
-      let a = reaching_own x m (omega arith) in
-      let b = reaching_own y m (omega arith) in
-      same_best _ _ (omega (arith, s.0)) (omega (arith, s.1, a, b))
-
-  pub product_none : 4294967295 ≤ x.cost + y.cost → (z : Best) → z.cost ≡ 4294967295 → z.number ≡ 0 → z ≡ best_ops.product x y
-  product_none h z p q =
-      let d = ranked_dead (x.cost + y.cost) (x.number * y.number) h in
-      same_best _ _ (p ∙ sym d.0) (q ∙ sym d.1)
-
-  pub product_some : x.cost + y.cost < 4294967295 → (z : Best) → z.cost ≡ x.cost + y.cost → z.number ≡ cut (x.number * y.number) → z ≡ best_ops.product x y
-  product_some h z p q =
-      let d = ranked_live (x.cost + y.cost) (x.number * y.number) h (mul-pos (live x (omega arith)) (live y (omega arith))) in
-      same_best _ _ (p ∙ sym d.0) (q ∙ sym d.1)
-
-  -- a product that has a cost is reached
-  pub product_reached : (c n : ℕ) → c ≡ x.cost + y.cost → c < 4294967295 → n ≡ cut (x.number * y.number) → (c == 4294967295) ≡ (n == 0)
-  product_reached c n e h f =
-      let p : 0 < x.number * y.number = mul-pos (live x (omega arith)) (live y (omega arith)) in
-      ne_eqb c 4294967295 (λ q. omega arith) ∙ sym (ne_eqb n 0 (λ q. omega arith))
-
-pub weight_is : (c : ℕ) → c < 65536 → (z : Best) → z.cost ≡ c → z.number ≡ 1 → z ≡ ranked c 1
-weight_is c h z p q =
-    let d = ranked_live c 1 (omega arith) (omega arith) in
-    same_best _ _ (p ∙ sym d.0) (q ∙ sym d.1)
+-- a product that has a cost is reached
+pub product_reached : (x y : Best) (c n : ℕ) → c ≡ x.cost + y.cost → c < 4294967295 → n ≡ cut (x.number * y.number) → (c == 4294967295) ≡ (n == 0)
+product_reached x y c n e h f =
+    let p : 0 < x.number * y.number = mul-pos (live x (omega arith)) (live y (omega arith)) in
+    grind (arith, nat_tests)
