@@ -1,6 +1,6 @@
 -- The algebra of the best: the least cost with how many reach it.
 -- Assumes nothing.
-use Rattle.std.specs.Prelude.{ℕ, ◌+◌, ◌*◌, min, cond, ◌==◌}
+use Rattle.std.specs.Prelude.{ℕ, ◌+◌, ◌*◌, min, if◌then◌else◌, ◌==◌}
 use Rattle.algebra.specs.Semiring.{Ops}
 use Rattle.algebra.specs.declared.values.Best.{Best}
 use Rattle.algebra.specs.Ranks.{exists, rank_capped, rank_counted, rank_reached}
@@ -8,8 +8,8 @@ use Rattle.algebra.specs.Ranks.{exists, rank_capped, rank_counted, rank_reached}
 -- the cost c reached n times; none where c reaches the cap or n is 0
 abbrev pub ranked : ℕ → ℕ → Best
 ranked c n = record {
-  cost = cond (exists c n) c 4294967295;
-  number = cond (exists c n) (min n 4294967295) 0;
+  cost = if exists c n then c else 4294967295;
+  number = if exists c n then min n 4294967295 else 0;
   capped = rank_capped c n;
   counted = rank_counted c n;
   reached = rank_reached c n;
@@ -17,7 +17,7 @@ ranked c n = record {
 
 -- how often a value reaches the cost c
 abbrev pub reaching : ℕ → Best → ℕ
-reaching c x = cond (x.cost == c) x.number 0
+reaching c x = if x.cost == c then x.number else 0
 
 -- the smaller cost, with the numbers of those that reach it added; costs added and numbers multiplied; an allele reaches its cost once
 abbrev pub best_ops : Ops Best

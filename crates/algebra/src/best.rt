@@ -4,6 +4,7 @@ ghost use Rattle.algebra.specs.BestLaws.{best_laws};
 
 use crate::semiring::Algebra;
 use crate::values::{Best, CAP};
+use std::cmp::Ordering;
 
 impl Algebra for Best {
     ghost operations = { best_ops };
@@ -22,25 +23,20 @@ impl Algebra for Best {
     }
 
     fn sum(self, other: Best) -> Best {
-        if self.cost < other.cost {
-            return self;
-        }
-        if other.cost < self.cost {
-            return other;
-        }
-        Best {
-            cost: self.cost,
-            number: self.number.saturating_add(other.number),
+        match self.cost.cmp(&other.cost) {
+            Ordering::Less => self,
+            Ordering::Greater => other,
+            Ordering::Equal => Best {
+                cost: self.cost,
+                number: self.number.saturating_add(other.number),
+            },
         }
     }
 
     fn product(self, other: Best) -> Best {
         let cost = self.cost.saturating_add(other.cost);
         if cost == CAP {
-            return Best {
-                cost: CAP,
-                number: 0,
-            };
+            return Self::zero();
         }
         Best {
             cost,

@@ -31,6 +31,6 @@ impl Algebra for Count {
     }
 
     fn weight(_cost: u16) -> Count {
-        <Count as Algebra>::one()
+        Self::one()
     }
 }

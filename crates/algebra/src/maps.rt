@@ -1,4 +1,5 @@
-// Maps that carry one algebra to another, so that they carry every figure too.
+// Maps that carry one algebra to another, so that they carry every figure too. They are methods and no `From`: a conversion would have neither a name
+// of its own nor a clause that says what it carries.
 ghost use Rattle.std.specs.Prelude.{◌≡◌};
 ghost use Rattle.algebra.specs.Best.{best_ops};
 ghost use Rattle.algebra.specs.Carried.{any_of, least_of};

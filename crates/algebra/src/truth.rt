@@ -20,17 +20,17 @@ impl Algebra for Truth {
 
     fn sum(self, other: Truth) -> Truth {
         Truth {
-            yes: self.yes | other.yes,
+            yes: self.yes || other.yes,
         }
     }
 
     fn product(self, other: Truth) -> Truth {
         Truth {
-            yes: self.yes & other.yes,
+            yes: self.yes && other.yes,
         }
     }
 
     fn weight(_cost: u16) -> Truth {
-        <Truth as Algebra>::one()
+        Self::one()
     }
 }

@@ -1,29 +1,15 @@
--- A rule of a table, proved at all of its entries by one test that the checker computes, one entry after the other.
-use Rattle.std.proofs.Common.{◌≡◌, ℕ, zero, suc, ◌+◌, ◌*◌, ◌/◌, ◌%◌, ◌<◌, ◌≤◌, Bool, true, ◌&&◌, eqb, List, [], ◌∷◌, length, get_or, sym, ◌∙◌, subst, le_of_suc-le-suc, not-suc-le-zero, add-zero, add-suc, suc-add, zero-add, arith}
-use Rattle.std.proofs.lemmas.Bool.{and_parts, eqb-true}
+-- The table of codes, by the triangular rule.
+use Rattle.std.proofs.Common.{◌≡◌, ℕ, ◌+◌, ◌*◌, ◌/◌, ◌%◌, ◌≤◌, List, map, slice_index, arith}
+use Rattle.std.specs.List.{range_with_len}
+use Rattle.std.proofs.lemmas.List.FromFn.{get_or-map-range_with_len}
 use Rattle.genotype.specs.Codes.{code_of}
 
--- the test f passes at each entry of the list and its place, counted from i
-abbrev pub every : (ℕ → ℕ → Bool) → ℕ → List ℕ → Bool
-every f i [] = true
-every f i (x ∷ xs) = f i x && every f (suc i) xs
+-- the code that stands at the place k = 16a + b
+abbrev pub code_at : ℕ → ℕ
+code_at k = code_of (k / 16) (k % 16)
 
-from : (f : ℕ → ℕ → Bool) (xs : List ℕ) (i : ℕ) → every f i xs ≡ true → (k : ℕ) → k < length xs → f (i + k) (get_or xs k 0) ≡ true
-from f [] i t k h = absurd (not-suc-le-zero h)
-from f (x ∷ xs) i t zero h = subst (λ (m : ℕ). f m x ≡ true) (sym (add-zero i)) (and_parts (f i x) (every f (suc i) xs) t).0
-from f (x ∷ xs) i t (suc k) h =
-    subst (λ (m : ℕ). f m (get_or xs k 0) ≡ true) (suc-add i k ∙ sym (add-suc i k))
-    (from f xs (suc i) (and_parts (f i x) (every f (suc i) xs) t).1 k (le_of_suc-le-suc h))
-
-pub at : (f : ℕ → ℕ → Bool) (xs : List ℕ) → every f 0 xs ≡ true → (k : ℕ) → k < length xs → f k (get_or xs k 0) ≡ true
-at f xs t k h = subst (λ (m : ℕ). f m (get_or xs k 0) ≡ true) (zero-add k) (from f xs 0 t k h)
-
--- the triangular rule of the table: what stands at the place k = 16a + b is the code of a and b
-abbrev pub triangular : ℕ → ℕ → Bool
-triangular k x = eqb x (code_of (k / 16) (k % 16))
-
-pub entry : (xs : List ℕ) (a b : ℕ) → every triangular 0 xs ≡ true → length xs ≡ 256 → a ≤ 15 → b ≤ 15 → get_or xs (16 * a + b) 0 ≡ code_of a b
-entry xs a b t long ha hb =
-    let row : (16 * a + b) / 16 ≡ a = omega arith in
-    let column : (16 * a + b) % 16 ≡ b = omega arith in
-    rw (row, column) at (eqb-true (get_or xs (16 * a + b) 0) (code_of ((16 * a + b) / 16) ((16 * a + b) % 16)) (at triangular xs t (16 * a + b) (omega arith)))
+pub entry : (xs : List ℕ) (a b k : ℕ) → xs ≡ map code_at (range_with_len 0 256) → k ≡ 16 * a + b → a ≤ 15 → b ≤ 15 → slice_index xs k ≡ code_of a b
+entry xs a b k e i ha hb =
+    let row : k / 16 ≡ a = omega arith in
+    let column : k % 16 ≡ b = omega arith in
+    rw (e, get_or-map-range_with_len code_at 0 256 k k 0 (omega arith) (omega arith), row, column)

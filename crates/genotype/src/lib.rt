@@ -7,9 +7,6 @@ ghost use Rattle.genotype.specs.Codes.{code_of, pair_of};
 // The largest allele that has a code.
 const LAST_ALLELE: u8 = 15;
 
-// The largest code of a pair.
-const LAST_CODE: u8 = 135;
-
 // What stands for the code of an allele that has none.
 const NO_CODE: u8 = 255;
 
@@ -55,9 +52,10 @@ pub fn code(a: u8, b: u8) -> u8
     ensures back { a ≤ 15 → b ≤ 15 → (result ≤ 135) × (pair_of result ≡ Some (min a b, max a b)) }
 {
     if a > LAST_ALLELE || b > LAST_ALLELE {
+        // A code and no `None`: each two alleles have one number, and 255 is the published one of those above 15.
         return NO_CODE;
     }
-    CODES[16 * a as usize + b as usize]
+    CODES[16 * usize::from(a) + usize::from(b)]
 }
 
 // The pair of a code, the smaller allele first; none for a number that is no pair's code.
@@ -65,14 +63,12 @@ pub fn pair(code: u8) -> Option<(u8, u8)>
     ensures value { result ≡ pair_of code }
     ensures back { MatchOption result (135 < code) (λ p. (code ≤ 135) × (p.0 ≤ p.1) × (p.1 ≤ 15) × (code_of p.0 p.1 ≡ code)) }
 {
-    if code > LAST_CODE {
-        return None;
-    }
-    let mut larger = 0;
     let mut smaller = code;
-    while smaller > larger {
+    for larger in 0..=LAST_ALLELE {
+        if smaller <= larger {
+            return Some((smaller, larger));
+        }
         smaller -= larger + 1;
-        larger += 1;
     }
-    Some((smaller, larger))
+    None
 }

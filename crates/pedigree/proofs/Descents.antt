@@ -102,7 +102,7 @@ child_within : (ps : List Person) (p m f : ℕ) → person_at ps p ≡ Child m f
 child_within ps p m f e =
     elim (cases_lt p (length ps)) [
       | inl l ↦ l
-      | inr g ↦ let past : person_at ps p ≡ Founder = get_or_past ps p Founder g in let z : ◌≡◌ {A = ℕ} 0 1 = cc in omega arith
+      | inr g ↦ let past : person_at ps p ≡ Founder = get_or_past ps p Founder g in cc
     ]
 
 pub descent_stands : DescentStands

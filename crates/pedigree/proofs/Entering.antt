@@ -1,12 +1,13 @@
--- One person more at the end of a lawful family, in the list and in the memory; what a memory keeps is lawful. Assumes nothing.
+-- One person more at the end of a lawful family, in the list and in the memory. Assumes nothing.
 use Rattle.std.proofs.Common.{◌≡◌, ℕ, ◌+◌, ◌<◌, ◌≤◌, true, List, [], ◌∷◌, ◌++◌, length, take, set, sym, ap, ◌∙◌, subst, inl, inr, arith}
-use Rattle.std.proofs.lemmas.List.{take_more_set, length_push, get_or_push, get_or_append_left, get_or_past, length-take-le, length-set}
-use Rattle.std.proofs.lemmas.Bool.{cases_order, and_parts, ltb-true}
+use Rattle.std.proofs.lemmas.List.{take_more_set, length_push, get_or_push, get_or_append_left, get_or_past, length-take-le}
+use Rattle.std.proofs.lemmas.Bool.{cases_order}
 use Rattle.pedigree.specs.declared.families.Family.{Family}
+use Rattle.pedigree.specs.declared.families.FamilyBuilder.{FamilyBuilder}
 use Rattle.pedigree.specs.declared.persons.Person.{Person}
 use Rattle.pedigree.specs.declared.persons.Person.TheVariants.{Founder, Child}
-use Rattle.pedigree.specs.Families.{founders_in, parents_below, person_at, ParentsFirst, Lawful, Kept}
-use Rattle.pedigree.specs.Building.{persons_of}
+use Rattle.pedigree.specs.Families.{founders_in, parents_below, ParentsFirst, Lawful}
+use Rattle.pedigree.specs.Building.{entered, persons_of}
 
 pub founders_in_push : (ps : List Person) (x : Person) → founders_in (ps ++ x ∷ []) ≡ founders_in ps + founders_in (x ∷ [])
 founders_in_push [] x = omega arith
@@ -21,32 +22,23 @@ parents_push ps x first here p =
       | inr (inr g) ↦ ap (parents_below p) (get_or_past (ps ++ x ∷ []) p Founder (omega (arith, length_push ps x)))
     ]
 
--- a child's parents are numbered below it
-pub child_parents : (ps : List Person) → ParentsFirst ps → (p m f : ℕ) → person_at ps p ≡ Child m f → (m < p) × (f < p)
-child_parents ps first p m f e =
-    let both = and_parts _ _ (subst (λ x. parents_below p x ≡ true) e (first p)) in
-    (ltb-true m p both.0, ltb-true f p both.1)
+-- a person written into the memory behind those entered: the founders among them then, and all of them lawful where the person may have its number
+module _ (b : FamilyBuilder) (n : ℕ) (x : Person) (next : n ≡ b.count) (room : n < 64) where
+  entered_more : take (b.count + 1) (set b.persons n x) ≡ entered b ++ x ∷ []
+  entered_more = ap (λ k. take (b.count + 1) (set b.persons k x)) next ∙ take_more_set b.persons b.count x (omega arith)
 
--- a person written into the memory behind those entered
-pub kept_push : (memory : List Person) (count fs gs : ℕ) (x : Person) → Kept memory count fs → count < 64 → parents_below count x ≡ true → gs ≡ fs + founders_in (x ∷ []) → gs ≤ 32 → Kept (set memory count x) (count + 1) gs
-kept_push memory count fs gs x kept room here g few =
-    let within : count < length memory = omega arith in
-    let pushed : take (count + 1) (set memory count x) ≡ take count memory ++ x ∷ [] = take_more_set memory count x within in
-    let long : length (take count memory) ≡ count = length-take-le count memory (omega arith) in (
-      length-set memory count x ∙ kept.0,
-      omega arith,
-      few,
-      g ∙ ap (λ n. n + founders_in (x ∷ [])) kept.3 ∙ sym (founders_in_push (take count memory) x) ∙ ap founders_in (sym pushed),
-      subst ParentsFirst (sym pushed) (parents_push (take count memory) x kept.4 (subst (λ n. parents_below n x ≡ true) (sym long) here)),
-    )
+  pub counted_more : (k : ℕ) → k ≡ b.founders + founders_in (x ∷ []) → k ≡ founders_in (take (b.count + 1) (set b.persons n x))
+  counted_more k counted = omega (arith, ap founders_in entered_more, founders_in_push (entered b) x)
 
--- what a memory keeps is a lawful family
-pub kept_lawful : (memory : List Person) (count fs : ℕ) → Kept memory count fs → Lawful (take count memory)
-kept_lawful memory count fs kept = (omega (arith, length-take-le count memory (omega arith)), omega arith, kept.4)
+  pub lawful_more : b.founders + founders_in (x ∷ []) ≤ 32 → parents_below n x ≡ true → Lawful (take (b.count + 1) (set b.persons n x))
+  lawful_more few here =
+      let long : n ≡ length (entered b) = next ∙ sym (length-take-le b.count b.persons (omega arith)) in
+      let first = parents_push (entered b) x b.lawful.2 (subst (λ k. parents_below k x ≡ true) long here) in
+      subst Lawful (sym entered_more) (omega (arith, length_push (entered b) x), omega (arith, founders_in_push (entered b) x), first)
 
 -- a closed family is lawful, and has a person
 pub family_lawful : (f : Family) → Lawful (persons_of f)
-family_lawful f = kept_lawful f.persons f.count f.founders f.kept
+family_lawful f = f.builder.lawful
 
 pub family_some : (f : Family) → 0 < length (persons_of f)
-family_some f = let some = f.some in let kept = f.kept in omega (arith, length-take-le f.count f.persons (omega arith))
+family_some f = let b = f.builder in let some = f.some in omega (arith, length-take-le b.count b.persons (omega arith))

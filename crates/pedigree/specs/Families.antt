@@ -1,6 +1,6 @@
 -- What a family is: its persons in the order entered, each numbered by its place. Assumes nothing.
 -- Words: founders_in (how many founders), ParentsFirst (parents are numbered below their children), Lawful (a family that may stand).
-use Rattle.std.specs.Prelude.{◌≡◌, ℕ, suc, ◌≤◌, Bool, true, ◌&&◌, List, [], ◌∷◌, length, take, nat_lt, slice_index_or}
+use Rattle.std.specs.Prelude.{ℕ, suc, ◌≤◌, Bool, true, ◌&&◌, IsTrue, List, [], ◌∷◌, length, nat_lt, slice_index_or}
 use Rattle.pedigree.specs.declared.persons.Person.{Person}
 use Rattle.pedigree.specs.declared.persons.Person.TheVariants.{Founder, Child}
 
@@ -21,12 +21,8 @@ parents_below p (Child m f) = nat_lt m p && nat_lt f p
 
 -- every child's mother and father are numbered below the child; they may be one person
 abbrev pub ParentsFirst : List Person → Type 0
-ParentsFirst ps = (p : ℕ) → parents_below p (person_at ps p) ≡ true
+ParentsFirst ps = (p : ℕ) → IsTrue (parents_below p (person_at ps p))
 
 -- at most 64 persons, at most 32 founders among them, and parents before their children
 abbrev pub Lawful : List Person → Type 0
 Lawful ps = (length ps ≤ 64) × (founders_in ps ≤ 32) × ParentsFirst ps
-
--- what the memory of a family keeps: the first `count` entries are the persons, and `fs` of them are founders
-abbrev pub Kept : List Person → ℕ → ℕ → Type 0
-Kept memory count fs = (length memory ≡ 64) × (count ≤ 64) × (fs ≤ 32) × (fs ≡ founders_in (take count memory)) × ParentsFirst (take count memory)

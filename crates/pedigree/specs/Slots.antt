@@ -1,7 +1,7 @@
 -- Founder slots: which two slots each person of a family holds under the meiosis bits of a locus. Assumes nothing.
 -- Words: taken (the slot of a parent that a bit takes), slots_of (the slots of all persons, worked out in their order),
 -- Descent (the law of descent that they keep), SlotsBelow (every slot is below a number).
-use Rattle.std.specs.Prelude.{◌≡◌, ℕ, ◌+◌, ◌*◌, ◌<◌, Bool, true, false, cond, List, [], ◌∷◌, ◌++◌, length, take, Some, None, Option, nat_lt, slice_index_or}
+use Rattle.std.specs.Prelude.{◌≡◌, ℕ, ◌+◌, ◌*◌, ◌<◌, Bool, true, false, List, [], ◌∷◌, ◌++◌, length, take, slice_index_or}
 use Rattle.pedigree.specs.declared.persons.Meiosis.{Meiosis}
 use Rattle.pedigree.specs.declared.persons.Person.{Person}
 use Rattle.pedigree.specs.declared.persons.Person.TheVariants.{Founder, Child}
@@ -53,7 +53,3 @@ DescentStands = (ps : List Person) (bs : List Meiosis) → ParentsFirst ps → D
 -- in every family whose parents come first, the bits settle the slots: no two tellings keep the law of descent
 abbrev pub DescentSettled : Type 0
 DescentSettled = (ps : List Person) (bs : List Meiosis) (s t : List (ℕ × ℕ)) → ParentsFirst ps → Descent ps bs s → Descent ps bs t → s ≡ t
-
--- the two slots of a person, where the family has it
-abbrev pub slots_answer : List Person → List Meiosis → ℕ → Option (ℕ × ℕ)
-slots_answer ps bs p = cond (nat_lt p (length ps)) (Some (slots_at (slots_of ps bs) p)) None

@@ -1,6 +1,6 @@
 // The memory of a family: while it is being entered, and closed.
-ghost use Rattle.std.specs.Prelude.{◌<◌};
-ghost use Rattle.pedigree.specs.Families.{Kept};
+ghost use Rattle.std.specs.Prelude.{◌≡◌, ◌<◌, ◌≤◌, length, take};
+ghost use Rattle.pedigree.specs.Families.{founders_in, Lawful};
 
 use crate::persons::Person;
 
@@ -8,21 +8,27 @@ pub mod builder;
 pub mod closed;
 pub mod descent;
 
-// A family that is being entered, person by person.
-#[derive(Clone, Copy)]
+// How many persons a family has at most.
+pub const PERSONS: usize = 64;
+
+// How many of them are founders at most.
+pub const FOUNDERS: usize = 32;
+
+// A family that is being entered, person by person. It stays Copy and takes no heap, so its persons stand in fixed memory with their count beside them.
+#[derive(Clone, Copy, PartialEq, Eq, Debug)]
 pub struct FamilyBuilder {
-    persons: [Person; 64],
+    persons: [Person; PERSONS],
     count: usize,
     founders: usize,
-    ghost kept: { Kept persons count founders },
+    ghost memory: { length persons ≡ 64 },
+    ghost within: { count ≤ 64 },
+    ghost counted: { founders ≡ founders_in (take count persons) },
+    ghost lawful: { Lawful (take count persons) },
 }
 
 // A closed family: it has at least one person, and changes no more.
-#[derive(Clone, Copy)]
+#[derive(Clone, Copy, PartialEq, Eq, Debug)]
 pub struct Family {
-    persons: [Person; 64],
-    count: usize,
-    founders: usize,
-    ghost kept: { Kept persons count founders },
-    ghost some: { 0 < count },
+    builder: FamilyBuilder,
+    ghost some: { 0 < builder.count },
 }

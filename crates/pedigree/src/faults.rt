@@ -17,32 +17,20 @@ pub enum FamilyFault {
     NoPerson,
 }
 
-impl FamilyFault {
-    // Its number, its place and its layer.
-    pub fn refusal(&self) -> Refusal
-        ensures { result ≡ told self.now }
-    {
-        match *self {
-            FamilyFault::TooManyPersons(place) => Refusal {
-                number: 1,
-                place,
-                layer: Layer::Family,
-            },
-            FamilyFault::TooManyFounders(place) => Refusal {
-                number: 1,
-                place,
-                layer: Layer::Family,
-            },
-            FamilyFault::ParentNotBelow(place) => Refusal {
-                number: 2,
-                place,
-                layer: Layer::Family,
-            },
-            FamilyFault::NoPerson => Refusal {
-                number: 3,
-                place: 0,
-                layer: Layer::Family,
-            },
+// The number and the place of a fault; its layer is the family layer.
+impl From<FamilyFault> for Refusal {
+    ghost from_gives = { λ fault refusal. refusal ≡ told fault };
+
+    fn from(fault: FamilyFault) -> Refusal {
+        let (number, place) = match fault {
+            FamilyFault::TooManyPersons(place) | FamilyFault::TooManyFounders(place) => (1, place),
+            FamilyFault::ParentNotBelow(place) => (2, place),
+            FamilyFault::NoPerson => (3, 0),
+        };
+        Refusal {
+            number,
+            place,
+            layer: Layer::Family,
         }
     }
 }

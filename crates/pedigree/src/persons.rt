@@ -3,14 +3,14 @@ ghost use Rattle.std.specs.Prelude.{◌≡◌};
 ghost use Rattle.pedigree.specs.Meioses.{bit_of, turned_at};
 
 // A person is a founder, or a child of two persons of the family, told by their numbers.
-#[derive(Clone, Copy)]
+#[derive(Clone, Copy, PartialEq, Eq, Debug)]
 pub enum Person {
     Founder,
     Child { mother: usize, father: usize },
 }
 
 // A child's maternal side comes from its mother, its paternal side from its father.
-#[derive(Clone, Copy)]
+#[derive(Clone, Copy, PartialEq, Eq, Debug)]
 pub enum Side {
     Maternal,
     Paternal,
@@ -18,7 +18,7 @@ pub enum Side {
 
 // The two meiosis bits of a child at a locus, one a side: false where the side holds that parent's maternal slot,
 // true where it holds that parent's paternal slot.
-#[derive(Clone, Copy)]
+#[derive(Clone, Copy, PartialEq, Eq, Debug)]
 pub struct Meiosis {
     pub maternal: bool,
     pub paternal: bool,

@@ -1,7 +1,7 @@
 -- The proofs that two panels and a mask keep the rules of a reading model if the models below them do.
-use Rattle.std.specs.Prelude.{◌≡◌, ℕ, ◌-◌, ◌≤◌, min, max, Bool, true, false, cond, ◌&&◌, ◌||◌, ◌==◌, ◌≢◌, nat_lt, refl}
+use Rattle.std.specs.Prelude.{◌≡◌, ℕ, ◌-◌, ◌≤◌, min, max, Bool, true, false, if◌then◌else◌, ◌&&◌, ◌||◌, ◌==◌, ◌≢◌, nat_lt, refl}
 use Rattle.std.proofs.Common.{arith}
-use Rattle.std.proofs.lemmas.Bool.{le-ltb, cond-false}
+use Rattle.std.proofs.lemmas.Bool.Decides.{nat_tests}
 use Rattle.readings.specs.declared.class.Class.{Class}
 use Rattle.readings.specs.declared.class.Class.TheVariants.{Silent, Named}
 use Rattle.readings.specs.Model.{Rules}
@@ -23,7 +23,7 @@ one class fits r locus person = record {
 }
 
 never_named : (a b : ℕ) → Silent ≢ Named a b
-never_named a b e = let z : ◌≡◌ {A = ℕ} 0 1 = cc in omega arith
+never_named a b e = cc
 
 nothing_read : ReadingRules Silent (λ x y. true)
 nothing_read = record {
@@ -34,16 +34,16 @@ nothing_read = record {
 }
 
 -- of two readings the one that a test picks
-picked : (t : Bool) (c d : Class) (f g : ℕ → ℕ → Bool) → ReadingRules c f → ReadingRules d g → ReadingRules (cond t c d) (λ x y. cond t (f x y) (g x y))
+picked : (t : Bool) (c d : Class) (f g : ℕ → ℕ → Bool) → ReadingRules c f → ReadingRules d g → ReadingRules (if t then c else d) (λ x y. if t then f x y else g x y)
 picked true c d f g first second = first
 picked false c d f g first second = second
 
 -- a reading that a test silences
-hidden : (t : Bool) (c : Class) (f : ℕ → ℕ → Bool) → ReadingRules c f → ReadingRules (cond t Silent c) (λ x y. t || f x y)
+hidden : (t : Bool) (c : Class) (f : ℕ → ℕ → Bool) → ReadingRules c f → ReadingRules (if t then Silent else c) (λ x y. t || f x y)
 hidden true c f below = nothing_read
 hidden false c f below = below
 
-still_silent : (t : Bool) (c d : Class) → c ≡ Silent → d ≡ Silent → cond t c d ≡ Silent
+still_silent : (t : Bool) (c d : Class) → c ≡ Silent → d ≡ Silent → (if t then c else d) ≡ Silent
 still_silent true c d p q = p
 still_silent false c d p q = q
 
@@ -58,7 +58,7 @@ module _ (n : ℕ) (c : ℕ → ℕ → Class) (f : ℕ → ℕ → ℕ → ℕ 
     silent = λ locus person. (panel locus person).silent;
     ordered = λ locus person. (panel locus person).ordered;
     named = λ locus person. (panel locus person).named;
-    far_locus = λ locus person h. cond-false (nat_lt locus 8) _ Silent (le-ltb locus 8 h);
+    far_locus = λ locus person h. grind (arith, nat_tests);
     far_person = λ locus person h.
         still_silent (nat_lt locus 8) _ Silent (still_silent (nat_lt locus n) (c locus person) (d (locus - n) person) (first.far_person locus person h) (second.far_person (locus - n) person h)) refl;
   }

@@ -28,9 +28,6 @@ impl ReadingModel for Codominant<'_> {
 
     fn fits(&self, locus: usize, person: usize, a: u8, b: u8) -> bool {
         let byte = byte_at(self.table, locus, person);
-        match pair(byte) {
-            Some(_) => code(a, b) == byte,
-            None => true,
-        }
+        pair(byte).is_none() || code(a, b) == byte
     }
 }

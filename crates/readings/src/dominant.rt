@@ -11,6 +11,8 @@ pub struct Dominant<'a> {
     pub table: &'a [u8],
 }
 
+// The bytes are published numbers, told apart by name where they are asked for. An enum of the two would take one more match to make it from a byte,
+// and each question would match again.
 const HIDES: u8 = 0;
 
 const SHOWS: u8 = 1;

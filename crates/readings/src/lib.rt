@@ -8,3 +8,9 @@ pub mod mask;
 pub mod model;
 mod table;
 pub mod two_panels;
+
+// From this locus on every reading is silent.
+const LOCI: usize = 8;
+
+// From this person on every reading is silent.
+const PERSONS: usize = 64;

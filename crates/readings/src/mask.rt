@@ -1,7 +1,8 @@
-ghost use Rattle.std.specs.Prelude.{◌≡◌, false, get_or, slice_index_or};
+ghost use Rattle.std.specs.Prelude.{◌≡◌, false, slice_index_or};
 ghost use Rattle.readings.specs.Combined.{masked_class, masked_fits};
 ghost use Rattle.readings.specs.CombinedRules.{masked_rules};
 
+use crate::PERSONS;
 use crate::class::Class;
 use crate::model::Model as ReadingModel;
 
@@ -9,27 +10,28 @@ use crate::model::Model as ReadingModel;
 #[derive(Clone, Copy)]
 pub struct Mask<M> {
     pub below: M,
-    pub silenced: [bool; 64],
+    // One flag for each person there can be: the set is fixed memory, and the mask stays `Copy`.
+    pub silenced: [bool; PERSONS],
 }
 
-const PERSONS: usize = 64;
-
-// Whether a person is silenced; none is from person 64 on.
-fn hides(silenced: &[bool; 64], person: usize) -> bool
-    ensures { result ≡ slice_index_or silenced.now person false }
-{
-    person < PERSONS && silenced[person]
+impl<M> Mask<M> {
+    // Whether a person is silenced; none is from person 64 on.
+    fn hides(&self, person: usize) -> bool
+        ensures { result ≡ slice_index_or self.now.silenced person false }
+    {
+        self.silenced.get(person).copied().unwrap_or(false)
+    }
 }
 
 impl<M: ReadingModel> ReadingModel for Mask<M> {
-    ghost classes = { λ m. masked_class (λ p. get_or m.silenced p false) (M.Model.classes m.below) };
+    ghost classes = { λ m. masked_class (λ p. slice_index_or m.silenced p false) (M.Model.classes m.below) };
 
-    ghost fitting = { λ m. masked_fits (λ p. get_or m.silenced p false) (M.Model.fitting m.below) };
+    ghost fitting = { λ m. masked_fits (λ p. slice_index_or m.silenced p false) (M.Model.fitting m.below) };
 
-    ghost rules = { λ m. masked_rules (λ p. get_or m.silenced p false) (M.Model.classes m.below) (M.Model.fitting m.below) (M.Model.rules m.below) };
+    ghost rules = { λ m. masked_rules (λ p. slice_index_or m.silenced p false) (M.Model.classes m.below) (M.Model.fitting m.below) (M.Model.rules m.below) };
 
     fn class(&self, locus: usize, person: usize) -> Class {
-        if hides(&self.silenced, person) {
+        if self.hides(person) {
             Class::Silent
         } else {
             self.below.class(locus, person)
@@ -37,6 +39,6 @@ impl<M: ReadingModel> ReadingModel for Mask<M> {
     }
 
     fn fits(&self, locus: usize, person: usize, a: u8, b: u8) -> bool {
-        hides(&self.silenced, person) || self.below.fits(locus, person, a, b)
+        self.hides(person) || self.below.fits(locus, person, a, b)
     }
 }

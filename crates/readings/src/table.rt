@@ -1,10 +1,7 @@
 ghost use Rattle.std.specs.Prelude.{◌≡◌};
 ghost use Rattle.readings.specs.Tables.{byte_at};
 
-// A table has readings of this many loci and persons.
-const LOCI: usize = 8;
-
-const PERSONS: usize = 64;
+use crate::{LOCI, PERSONS};
 
 // The byte of a person without one.
 const NO_BYTE: u8 = 255;
@@ -16,10 +13,8 @@ pub(crate) fn byte_at(table: &[u8], locus: usize, person: usize) -> u8
     if locus >= LOCI || person >= PERSONS {
         return NO_BYTE;
     }
-    let place = PERSONS * locus + person;
-    if place < table.len() {
-        table[place]
-    } else {
-        NO_BYTE
-    }
+    table
+        .get(PERSONS * locus + person)
+        .copied()
+        .unwrap_or(NO_BYTE)
 }

@@ -1,7 +1,8 @@
-ghost use Rattle.std.specs.Prelude.{◌≡◌, nat_lt};
+ghost use Rattle.std.specs.Prelude.{◌≡◌, ◌-◌, ◌<◌, ◌≤◌};
 ghost use Rattle.readings.specs.Combined.{panels_class, panels_fits};
 ghost use Rattle.readings.specs.CombinedRules.{panels_rules};
 
+use crate::LOCI;
 use crate::class::Class;
 use crate::model::Model as ReadingModel;
 
@@ -14,13 +15,28 @@ pub struct TwoPanels<F, S> {
     pub second: S,
 }
 
-const LOCI: usize = 8;
+// The panel that reads a locus, with the number that the locus has there.
+#[derive(Clone, Copy)]
+enum Panel {
+    First(usize),
+    Second(usize),
+}
 
-// Whether a locus is one of the first panel's.
-fn is_first(split: usize, locus: usize) -> bool
-    ensures { result ≡ nat_lt locus split }
-{
-    locus < split
+impl<F, S> TwoPanels<F, S> {
+    // Which panel reads a locus; none from locus 8 on.
+    fn panel(&self, locus: usize) -> Option<Panel>
+        ensures first { locus < 8 → locus < self.now.split → result ≡ Some (Panel.First locus) }
+        ensures second { locus < 8 → self.now.split ≤ locus → result ≡ Some (Panel.Second (locus - self.now.split)) }
+        ensures neither { 8 ≤ locus → result ≡ None }
+    {
+        if locus >= LOCI {
+            None
+        } else if locus < self.split {
+            Some(Panel::First(locus))
+        } else {
+            Some(Panel::Second(locus - self.split))
+        }
+    }
 }
 
 impl<F: ReadingModel, S: ReadingModel> ReadingModel for TwoPanels<F, S> {
@@ -31,24 +47,18 @@ impl<F: ReadingModel, S: ReadingModel> ReadingModel for TwoPanels<F, S> {
     ghost rules = { λ m. panels_rules m.split (F.Model.classes m.first) (F.Model.fitting m.first) (S.Model.classes m.second) (S.Model.fitting m.second) (F.Model.rules m.first) (S.Model.rules m.second) };
 
     fn class(&self, locus: usize, person: usize) -> Class {
-        if locus >= LOCI {
-            return Class::Silent;
-        }
-        if is_first(self.split, locus) {
-            self.first.class(locus, person)
-        } else {
-            self.second.class(locus - self.split, person)
+        match self.panel(locus) {
+            Some(Panel::First(there)) => self.first.class(there, person),
+            Some(Panel::Second(there)) => self.second.class(there, person),
+            None => Class::Silent,
         }
     }
 
     fn fits(&self, locus: usize, person: usize, a: u8, b: u8) -> bool {
-        if locus >= LOCI {
-            return true;
-        }
-        if is_first(self.split, locus) {
-            self.first.fits(locus, person, a, b)
-        } else {
-            self.second.fits(locus - self.split, person, a, b)
+        match self.panel(locus) {
+            Some(Panel::First(there)) => self.first.fits(there, person, a, b),
+            Some(Panel::Second(there)) => self.second.fits(there, person, a, b),
+            None => true,
         }
     }
 }

@@ -1,3 +1,1 @@
-pub mod Memory
-pub mod Answered
-pub mod Read
+pub mod Lawful

@@ -1,10 +1,15 @@
 -- What a panel builder and a closed panel hold, and what each call on a builder answers. Assumes nothing.
 use Rattle.std.specs.Prelude.{◌≡◌, ℕ, ◌<◌, cond, ◌&&◌, List, [], map, length, take, Some, None, Ok, Err, Option, Result, ◌==◌, nat_le, nat_lt, slice_index_or}
+use Rattle.study.specs.declared.loci.Locus.{Locus}
 use Rattle.study.specs.declared.panels.Panel.{Panel}
 use Rattle.study.specs.declared.panels.PanelBuilder.{PanelBuilder}
 use Rattle.study.specs.declared.faults.ReadingsFault.{ReadingsFault}
 use Rattle.study.specs.declared.faults.ReadingsFault.TheVariants.{NoLocus, NinthLocus, Alleles, CostCount, Cost}
-use Rattle.study.specs.Panels.{costs_low, codominant_count, listed}
+use Rattle.study.specs.Panels.{costs_low, codominant_count}
+
+-- the costs of a locus, from its memory
+abbrev pub listed : Locus → List ℕ
+listed L = take L.alleles L.costs
 
 -- the loci entered so far, each the list of its costs
 abbrev pub loci_so_far : PanelBuilder → List (List ℕ)

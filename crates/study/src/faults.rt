@@ -1,6 +1,6 @@
 // Why a panel or a reading is refused.
 ghost use Rattle.std.specs.Prelude.{◌≡◌};
-ghost use Rattle.study.specs.Faults.{readings_refusal, told};
+ghost use Rattle.study.specs.Faults.{told};
 
 use refusal::{Layer, Refusal};
 
@@ -27,32 +27,25 @@ pub enum ReadingsFault {
     SecondReading(usize),
 }
 
-// What a refusal of the readings layer tells.
-fn of_readings(number: u8, place: usize) -> Refusal
-    ensures { result ≡ readings_refusal number place }
-{
-    Refusal {
-        number,
-        place,
-        layer: Layer::Readings,
-    }
-}
+impl From<ReadingsFault> for Refusal {
+    ghost from_gives = { λ f r. r ≡ told f };
 
-impl ReadingsFault {
-    // Its number, its place and its layer.
-    pub fn refusal(&self) -> Refusal
-        ensures { result ≡ told self.now }
-    {
-        match *self {
-            ReadingsFault::LocusLacking(place) => of_readings(4, place),
-            ReadingsFault::NoLocus => of_readings(5, 0),
-            ReadingsFault::NinthLocus(place) => of_readings(5, place),
-            ReadingsFault::Alleles(place) => of_readings(5, place),
-            ReadingsFault::CostCount(place) => of_readings(5, place),
-            ReadingsFault::Cost(place) => of_readings(5, place),
-            ReadingsFault::PersonLacking(place) => of_readings(6, place),
-            ReadingsFault::NumberLacking(place) => of_readings(7, place),
-            ReadingsFault::SecondReading(place) => of_readings(7, place),
+    // The number and the place of the fault, in the readings layer.
+    fn from(fault: ReadingsFault) -> Refusal {
+        let (number, place) = match fault {
+            ReadingsFault::LocusLacking(locus) => (4, locus),
+            ReadingsFault::NoLocus => (5, 0),
+            ReadingsFault::NinthLocus(locus)
+            | ReadingsFault::Alleles(locus)
+            | ReadingsFault::CostCount(locus)
+            | ReadingsFault::Cost(locus) => (5, locus),
+            ReadingsFault::PersonLacking(person) => (6, person),
+            ReadingsFault::NumberLacking(place) | ReadingsFault::SecondReading(place) => (7, place),
+        };
+        Refusal {
+            number,
+            place,
+            layer: Layer::Readings,
         }
     }
 }

@@ -4,6 +4,7 @@
 pub mod faults;
 mod loci;
 pub mod panels;
+mod spots;
 pub mod tables;
 
 pub use faults::ReadingsFault;

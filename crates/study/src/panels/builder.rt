@@ -1,33 +1,11 @@
 // Entering a panel, locus by locus, and closing it.
-ghost use Rattle.std.specs.Prelude.{◌≡◌, ◌≤◌, true, false, [], ◌∷◌, ◌++◌, length, take, None, MatchOption, MatchResult};
-ghost use Rattle.study.specs.Panels.{costs_low, first_begun, LawfulPanel};
+ghost use Rattle.std.specs.Prelude.{◌≡◌, [], ◌∷◌, ◌++◌, length, None, MatchResult};
+ghost use Rattle.study.specs.Panels.{first_begun, LawfulPanel};
 ghost use Rattle.study.specs.Building.{loci_so_far, begun_at, codominants_so_far, locus_answer, Closed};
 
 use crate::faults::ReadingsFault;
-use crate::loci::Locus;
-use crate::panels::{Panel, PanelBuilder};
-
-const LOCI: usize = 8;
-
-const ALLELES: usize = 16;
-
-const MOST_COST: u32 = 65535;
-
-// The costs of a locus in its memory, if none is above 65,535.
-fn stored(costs: &[u32]) -> Option<[u16; 16]>
-    requires { length costs.now ≤ 16 }
-    ensures { MatchOption result (costs_low costs.now ≡ false) (λ memory. (length memory ≡ 16) × (take (length costs.now) memory ≡ costs.now) × (costs_low costs.now ≡ true)) }
-{
-    let mut memory: [u16; 16] = [0; 16];
-    for i in 0..costs.len() {
-        let cost = costs[i];
-        if cost > MOST_COST {
-            return None;
-        }
-        memory[i] = cost as u16;
-    }
-    Some(memory)
-}
+use crate::loci::{ALLELES, Locus};
+use crate::panels::{LOCI, Panel, PanelBuilder};
 
 impl PanelBuilder {
     // A panel without a locus so far.
@@ -36,10 +14,7 @@ impl PanelBuilder {
         ensures begun { begun_at result ≡ None }
     {
         PanelBuilder {
-            loci: [Locus {
-                alleles: 1,
-                costs: [0; 16],
-            }; 8],
+            loci: [Locus::BLANK; LOCI],
             count: 0,
             begun: None,
         }
@@ -54,23 +29,15 @@ impl PanelBuilder {
         if number >= LOCI {
             return Err(ReadingsFault::NinthLocus(number));
         }
-        if alleles == 0 || alleles > ALLELES {
+        if !(1..=ALLELES).contains(&alleles) {
             return Err(ReadingsFault::Alleles(number));
         }
         if costs.len() != alleles {
             return Err(ReadingsFault::CostCount(number));
         }
-        match stored(costs) {
-            None => Err(ReadingsFault::Cost(number)),
-            Some(memory) => {
-                self.loci[number] = Locus {
-                    alleles,
-                    costs: memory,
-                };
-                self.count += 1;
-                Ok(number)
-            }
-        }
+        self.loci[number] = Locus::of(costs).ok_or(ReadingsFault::Cost(number))?;
+        self.count += 1;
+        Ok(number)
     }
 
     // From here on every locus entered is dominant. A second call changes nothing.
@@ -78,9 +45,7 @@ impl PanelBuilder {
         ensures loci { loci_so_far self.new ≡ loci_so_far self.old }
         ensures begun { begun_at self.new ≡ first_begun (begun_at self.old) (length (loci_so_far self.old)) }
     {
-        if let None = self.begun {
-            self.begun = Some(self.count);
-        }
+        self.begun.get_or_insert(self.count);
     }
 
     // The panel with exactly the loci entered so far. The builder stays as it is.

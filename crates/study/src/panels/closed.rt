@@ -4,12 +4,13 @@ ghost use Rattle.study.specs.Building.{loci_of, codominants_of, alleles_answer};
 
 use crate::panels::Panel;
 
+// A closed panel tells of its loci what its builder tells: the first three hand on to it, so that who holds a panel needs no builder.
 impl Panel {
     // How many loci it has.
     pub fn count(&self) -> usize
         ensures { result ≡ length (loci_of self.now) }
     {
-        self.entered.count
+        self.entered.count()
     }
 
     // How many of them are codominant; they are the first.
@@ -30,11 +31,6 @@ impl Panel {
     pub fn costs(&self, locus: usize) -> Option<&[u16]>
         ensures { MatchOption result (length (loci_of self.now) ≤ locus) (λ costs. (locus < length (loci_of self.now)) × (costs.now ≡ slice_index_or (loci_of self.now) locus [])) }
     {
-        if locus < self.entered.count {
-            let memory = &self.entered.loci[locus];
-            Some(&memory.costs[0..memory.alleles])
-        } else {
-            None
-        }
+        self.entered.loci().get(locus).map(|found| found.costs())
     }
 }

@@ -1,6 +1,5 @@
-use Rattle.std.proofs.Common.{rules}
 use Rattle.algebra.proofs.Carrying.{any_carries}
 use Rattle.algebra.proofs.values.Count.any.Goals as goal
 
-pub returns : goal.returns
-returns c = record { value = search rules; carries = any_carries }
+pub returns-clause-carries : goal.returns-clause-carries
+returns-clause-carries c = any_carries

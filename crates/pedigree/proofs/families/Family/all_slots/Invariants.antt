@@ -1,5 +1,6 @@
+use Rattle.pedigree.specs.Building.{persons_of}
 use Rattle.pedigree.proofs.Telling.{Telling}
 use Rattle.pedigree.proofs.families.Family.all_slots.Given as goal
 
-abbrev pub invariant-loop-p : goal.invariant-loop-p
-invariant-loop-p l = Telling l.self.persons l.self.count l.bits l.slots l.founders l.p
+abbrev pub invariant-loop-number : goal.invariant-loop-number
+invariant-loop-number l = Telling (persons_of l.self) l.bits l.slots l.founders l.number

@@ -1,15 +1,9 @@
-use Rattle.std.proofs.Common.{◌+◌, refl, arith, rules}
-use Rattle.std.proofs.lemmas.List.{take_more_set}
-use Rattle.pedigree.specs.declared.persons.Person.TheVariants.{Founder}
-use Rattle.pedigree.proofs.Entering.{kept_push}
+use Rattle.std.proofs.Common.{refl, arith}
+use Rattle.pedigree.proofs.Entering.{counted_more, lawful_more}
 use Rattle.pedigree.proofs.families.FamilyBuilder.founder.Goals as goal
 
-pub invariant_of-self : goal.invariant_of-self
-invariant_of-self c =
-    let b = c.args.self.now in
-    record { kept = kept_push b.persons b.count b.founders (b.founders + 1) Founder b.kept (omega arith) refl refl (omega arith) }
+pub invariant_of-self-clause-counted : goal.invariant_of-self-clause-counted
+invariant_of-self-clause-counted c = counted_more c.args.self.now _ _ (omega arith) (omega arith) _ refl
 
-pub returns : goal.returns
-returns c =
-    let b = c.args.self.now in
-    record { answer = search rules; after = take_more_set b.persons b.count Founder (omega arith) }
+pub invariant_of-self-clause-lawful : goal.invariant_of-self-clause-lawful
+invariant_of-self-clause-lawful c = lawful_more c.args.self.now _ _ (omega arith) (omega arith) (omega arith) refl
