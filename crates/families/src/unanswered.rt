@@ -1,18 +1,19 @@
 // Why a case has no figures.
 use pedigree::FamilyFault;
+use refusal::Refusal;
 use std::fmt;
 use sums::WideLocus;
 
 // The family was refused, or the locus is wide.
 #[derive(Clone, Copy, PartialEq, Eq, Debug)]
 pub enum Unanswered {
-    Refused(FamilyFault),
+    Refused(Refusal),
     Wide(WideLocus),
 }
 
 impl From<FamilyFault> for Unanswered {
     fn from(fault: FamilyFault) -> Unanswered {
-        Unanswered::Refused(fault)
+        Unanswered::Refused(fault.into())
     }
 }
 
@@ -25,7 +26,7 @@ impl From<WideLocus> for Unanswered {
 impl fmt::Display for Unanswered {
     fn fmt<W: fmt::Write>(&self, f: &mut fmt::Formatter<W>) -> fmt::Result {
         match *self {
-            Unanswered::Refused(fault) => write!(f, "refused {}", fault.refusal().number),
+            Unanswered::Refused(refusal) => write!(f, "refused {}", refusal.number),
             Unanswered::Wide(wide) => write!(f, "locus {} is wide", wide.locus),
         }
     }

@@ -5,3 +5,4 @@ pub mod CodominantRules
 pub mod DominantRules
 pub mod Combined
 pub mod CombinedRules
+pub mod Printed
