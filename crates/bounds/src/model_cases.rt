@@ -7,8 +7,8 @@ use readings::two_panels::TwoPanels;
 use std::io;
 
 // A question to a model: the class of a person's reading at a locus, and whether two alleles of number 1 fit it.
-struct Question {
-    name: &'static str,
+struct Question<'a> {
+    name: &'a str,
     locus: usize,
     person: usize,
 }
@@ -110,7 +110,7 @@ fn fit_name(fits: bool) -> &'static str {
     if fits { "fit" } else { "break" }
 }
 
-fn ask<M: Model>(rt: &HostRuntime, model: &M, questions: &[Question]) -> io::Result<()> {
+fn ask<M: Model>(rt: &HostRuntime, model: &M, questions: &[Question<'_>]) -> io::Result<()> {
     for question in questions {
         let class = model.class(question.locus, question.person);
         let fits = fit_name(model.fits(question.locus, question.person, 1, 1));
@@ -119,7 +119,7 @@ fn ask<M: Model>(rt: &HostRuntime, model: &M, questions: &[Question]) -> io::Res
     Ok(())
 }
 
-fn ask_panels(rt: &HostRuntime, split: usize, questions: &[Question]) -> io::Result<()> {
+fn ask_panels(rt: &HostRuntime, split: usize, questions: &[Question<'_>]) -> io::Result<()> {
     let model = TwoPanels {
         split,
         first: Codominant {

@@ -247,7 +247,12 @@ fn enter_all(
     for case in study.cases {
         print_case(rt, &mut tables, panel, family, case)?;
     }
-    print_bytes(rt, "codominant", tables.codominant(), study.codominant_places)?;
+    print_bytes(
+        rt,
+        "codominant",
+        tables.codominant(),
+        study.codominant_places,
+    )?;
     print_bytes(rt, "dominant", tables.dominant(), study.dominant_places)
 }
 
