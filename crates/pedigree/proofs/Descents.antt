@@ -38,9 +38,6 @@ record Told (ps : List Person) (bs : List Meiosis) (s : List (ℕ × ℕ)) : Typ
   own : (p : ℕ) → p < length ps → slots_at s p ≡ held_by (founders_in (take p ps)) (bits_at bs p) s (person_at ps p)
   low : SlotsBelow (2 * founders_in ps) s
 
-held_cong : (i j : ℕ) (b c : Meiosis) (s : List (ℕ × ℕ)) (x y : Person) → i ≡ j → b ≡ c → x ≡ y → held_by i b s x ≡ held_by j c s y
-held_cong i j b c s x y p q r = ap (λ n. held_by n b s x) p ∙ ap (λ d. held_by j d s x) q ∙ ap (held_by j c s) r
-
 told_push : (ps : List Person) (bs : List Meiosis) (s : List (ℕ × ℕ)) (x : Person) → ParentsFirst (ps ++ x ∷ []) → Told ps bs s → Told (ps ++ x ∷ []) bs (s ++ held_by (founders_in ps) (bits_at bs (length s)) s x ∷ [])
 told_push ps bs s x first old =
     let y : ℕ × ℕ = held_by (founders_in ps) (bits_at bs (length s)) s x in
@@ -58,14 +55,10 @@ told_push ps bs s x first old =
     λ p l.
     let same : person_at (ps ++ x ∷ []) p ≡ person_at ps p = get_or_append_left ps (x ∷ []) Founder p l in
     let below : parents_below p (person_at ps p) ≡ true = subst (λ z. parents_below p z ≡ true) same (first p) in
-    keeps p l
-    ∙ old.own p l
-    ∙ sym (held_same _ _ (s ++ y ∷ []) s (person_at ps p) p below (λ k h. keeps k (omega arith)))
-    ∙ held_cong _ _ _ _ (s ++ y ∷ []) _ _ (ap founders_in (sym (take-append-le p ps (x ∷ []) (omega arith)))) refl (sym same) in
+    let still = held_same (founders_in (take p ps)) (bits_at bs p) (s ++ y ∷ []) s (person_at ps p) p below (λ k h. keeps k (omega arith)) in
+    cc (keeps p l, old.own p l, still, take-append-le p ps (x ∷ []) (omega arith), same) in
     let own_new : Own (length ps) =
-    new
-    ∙ sym (held_same _ _ (s ++ y ∷ []) s x (length ps) here keeps)
-    ∙ held_cong _ _ _ _ (s ++ y ∷ []) _ _ (ap founders_in (sym (take_at ps (x ∷ []) (length ps) refl))) (ap (bits_at bs) old.all) (sym last) in
+    cc (new, held_same (founders_in ps) (bits_at bs (length s)) (s ++ y ∷ []) s x (length ps) here keeps, take_at ps (x ∷ []) (length ps) refl, old.all, last) in
     let low-new : BothBelow n y = held_below (founders_in ps) n (length ps) (bits_at bs (length s)) s x here low-old (omega (arith, more)) in
     record {
       all = length_push s y ∙ ap (λ k. k + 1) old.all ∙ sym longer;

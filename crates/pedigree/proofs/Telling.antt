@@ -1,5 +1,5 @@
 -- Telling the slots of a family person by person, into an array of 64 pairs. Assumes nothing.
-use Rattle.std.proofs.Common.{◌≡◌, ℕ, ◌+◌, ◌-◌, ◌<◌, ◌≤◌, List, [], ◌∷◌, ◌++◌, length, take, drop, set, replicate, sym, ap, ◌∙◌, subst, arith}
+use Rattle.std.proofs.Common.{◌≡◌, ℕ, ◌+◌, ◌-◌, ◌<◌, ◌≤◌, List, [], ◌∷◌, ◌++◌, length, take, drop, set, replicate, sym, ap, ◌∙◌, arith}
 use Rattle.std.proofs.lemmas.List.{length-set, length-take-le, take_more_set, take-append-drop, drop-set-lt, drop-drop, drop-replicate, at_drop_more, at_drop_all}
 use Rattle.pedigree.specs.declared.persons.Meiosis.{Meiosis}
 use Rattle.pedigree.specs.declared.persons.Person.{Person}
@@ -26,21 +26,12 @@ module _ (ps : List Person) (bs : List Meiosis) (slots : List (ℕ × ℕ)) (i p
       let long : length before ≡ p = length-take-le p slots (omega (arith, inv.long)) in
       let step : slots_after before i (drop p ps) bs ≡ slots_after (before ++ held_by i (bits_at bs (length before)) before (person_at ps p) ∷ []) (i + founders_in (person_at ps p ∷ [])) (drop (p + 1) ps) bs =
       at_drop_more (λ xs. slots_after before i xs bs) ps p Founder (omega arith) in
-      let Step : ℕ → Person → Type 0 = λ n z. slots_after before i (drop p ps) bs ≡ slots_after (before ++ held_by i (bits_at bs n) before z ∷ []) (i + founders_in (z ∷ [])) (drop (p + 1) ps) bs in
-      let here : Step p x = subst (Step p) at (subst (λ n. Step n (person_at ps p)) long step) in record {
+      let rest : drop {A = ℕ × ℕ} 1 (replicate (64 - p) (0, 0)) ≡ replicate (64 - (p + 1)) (0, 0) = drop-replicate 1 (64 - p) (0, 0) ∙ ap (λ n. replicate n (0, 0)) (omega arith) in
+      record {
         long = length-set slots p y ∙ inv.long;
         few = omega (arith, one_founder x, inv.few);
-        blank =
-            drop-set-lt (p + 1) slots p y (omega arith)
-            ∙ sym (drop-drop 1 p slots)
-            ∙ ap (drop 1) inv.blank
-            ∙ drop-replicate 1 (64 - p) (0, 0)
-            ∙ ap (λ n. replicate n (0, 0)) (omega arith);
-        told =
-            ap (λ s. slots_after s j (drop (p + 1) ps) bs) (take_more_set slots p y (omega (arith, inv.long)))
-            ∙ ap (λ n. slots_after (before ++ y ∷ []) n (drop (p + 1) ps) bs) count-on
-            ∙ sym here
-            ∙ inv.told;
+        blank = cc (drop-set-lt (p + 1) slots p y (omega arith), drop-drop 1 p slots, inv.blank, rest);
+        told = cc (take_more_set slots p y (omega (arith, inv.long)), count-on, step, long, at, inv.told);
       }
 
   -- when all persons are told, the slots told are those of the family, and (0, 0) stands behind them

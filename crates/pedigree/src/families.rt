@@ -26,7 +26,7 @@ pub struct FamilyBuilder {
     ghost lawful: { Lawful (take count persons) },
 }
 
-// A closed family: it has at least one person, and changes no more.
+// A closed family: its builder as it was when it was closed, with at least one person. It changes no more.
 #[derive(Clone, Copy, PartialEq, Eq, Debug)]
 pub struct Family {
     builder: FamilyBuilder,
