@@ -12,7 +12,7 @@ use Rattle.figures.specs.Figure.{figure}
 use Rattle.figures.specs.Graph.{join, link, Component, Components, Sound, links, has, own, component_sum}
 use Rattle.figures.specs.Statements.{FiguresFactored}
 use Rattle.figures.proofs.Folds.{fold_cong_in, fold_joined, fold_perm}
-use Rattle.figures.proofs.Members.{in_left, in_right, joined_in, in_map, in_kept, kept_in, in_counting, counting_in, once_counting, every_from, every_at, has_in, in_has}
+use Rattle.figures.proofs.Members.{in_right, joined_in, in_map, in_kept, kept_in, in_counting, counting_in, once_counting, every_from, every_at, has_in, in_has}
 use Rattle.figures.proofs.Perms.{Perm, same_members}
 use Rattle.figures.proofs.SlotSums.{update_other, sum_cong, sum_perm, sum_factors, Local, Disjoint, absorbs_right}
 use Rattle.figures.proofs.Placed.{fits_at, term_of, figure_summed, component_summed}
@@ -32,10 +32,6 @@ pub once_apart : {X : Type 0} (xs ys : List X) → Once (xs ++ ys) → (x : X) �
 once_apart [] ys o x i j = elim i [ ]
 once_apart (z ∷ xs) ys o x (inl e) j = o.0 (in_right z xs ys (subst (λ t. In t ys) e j))
 once_apart (z ∷ xs) ys o x (inr i) j = once_apart xs ys o.1 x i j
-
-pub once_front : {X : Type 0} (xs ys : List X) → Once (xs ++ ys) → Once xs
-once_front [] ys o = tt
-once_front (x ∷ xs) ys o = (λ i. o.0 (in_left x xs ys i), once_front xs ys o.1)
 
 once_back : {X : Type 0} (xs ys : List X) → Once (xs ++ ys) → Once ys
 once_back [] ys o = o

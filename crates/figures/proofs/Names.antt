@@ -1,7 +1,8 @@
 -- The name of a slot is the lowest slot that links join it to: two slots have one name exactly if a chain joins them.
 -- Assumes nothing.
-use Rattle.std.proofs.Common.{◌≡◌, ℕ, ◌<◌, ◌≤◌, min, max, Bool, true, false, cond, eqb, ◌⊎◌, List, [], ◌∷◌, sym, refl, ap, ◌∙◌, subst, inl, inr, arith}
-use Rattle.std.proofs.lemmas.Bool.{eqb-true, eqb-false, cases_lt}
+use Rattle.std.proofs.Common.{◌≡◌, ℕ, ◌<◌, ◌≤◌, min, max, cond, eqb, ◌⊎◌, List, [], ◌∷◌, sym, refl, ap, ◌∙◌, subst, inl, inr, arith}
+use Rattle.std.proofs.lemmas.Bool.{cases_lt}
+use Rattle.std.proofs.lemmas.Bool.Decides.{nat_tests}
 use Rattle.figures.specs.Lists.{In}
 use Rattle.figures.specs.Graph.{Chain, same, link, back, join}
 
@@ -18,32 +19,16 @@ name (l ∷ ls) s =
     renamed x y z
 
 renamed_cases : (x y z : ℕ) → ((z ≡ max x y) × (renamed x y z ≡ min x y)) ⊎ ((z ≡ max x y → ⊥) × (renamed x y z ≡ z))
-renamed_cases x y z = go (eqb z (max x y)) refl
-  where
-    go : (b : Bool) → eqb z (max x y) ≡ b → ((z ≡ max x y) × (cond b (min x y) z ≡ min x y)) ⊎ ((z ≡ max x y → ⊥) × (cond b (min x y) z ≡ z))
-    go true e = inl (eqb-true z (max x y) e, refl)
-    go false e = inr (eqb-false z (max x y) e, refl)
+renamed_cases x y z = grind (arith, nat_tests)
 
 renamed_le : (x y z : ℕ) → renamed x y z ≤ z
-renamed_le x y z = go (renamed_cases x y z)
-  where
-    go : ((z ≡ max x y) × (renamed x y z ≡ min x y)) ⊎ ((z ≡ max x y → ⊥) × (renamed x y z ≡ z)) → renamed x y z ≤ z
-    go (inl p) = omega (arith, p.0, p.1)
-    go (inr p) = omega (arith, p.1)
+renamed_le x y z = grind (arith, nat_tests)
 
 renamed_first : (x y : ℕ) → renamed x y x ≡ min x y
-renamed_first x y = go (renamed_cases x y x)
-  where
-    go : ((x ≡ max x y) × (renamed x y x ≡ min x y)) ⊎ ((x ≡ max x y → ⊥) × (renamed x y x ≡ x)) → renamed x y x ≡ min x y
-    go (inl p) = p.1
-    go (inr p) = p.1 ∙ omega (arith, p.0)
+renamed_first x y = grind (arith, nat_tests)
 
 renamed_second : (x y : ℕ) → renamed x y y ≡ min x y
-renamed_second x y = go (renamed_cases x y y)
-  where
-    go : ((y ≡ max x y) × (renamed x y y ≡ min x y)) ⊎ ((y ≡ max x y → ⊥) × (renamed x y y ≡ y)) → renamed x y y ≡ min x y
-    go (inl p) = p.1
-    go (inr p) = p.1 ∙ omega (arith, p.0)
+renamed_second x y = grind (arith, nat_tests)
 
 pub name_le : (ls : List (ℕ × ℕ)) (s : ℕ) → name ls s ≤ s
 name_le [] s = omega arith
