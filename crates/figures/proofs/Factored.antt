@@ -18,9 +18,7 @@ use Rattle.figures.proofs.SlotSums.{update_other, sum_cong, sum_perm, sum_factor
 use Rattle.figures.proofs.Placed.{fits_at, term_of, figure_summed, component_summed}
 
 pub same_truth : (a b : Bool) → (a ≡ true → b ≡ true) → (b ≡ true → a ≡ true) → a ≡ b
-same_truth true b f g = sym (f refl)
-same_truth false true f g = g refl
-same_truth false false f g = refl
+same_truth a b f g = grind arith
 
 pub not_loud : (c : Class) → loud c ≡ false → c ≡ Silent
 not_loud Silent e = refl
@@ -125,4 +123,4 @@ module _ {V : Type 0} (o : Ops V) (l : Laws o) (w : ℕ → V) (L : Locus) (soun
       ∙ fold_cong_in o.one o.product cs _ _ (λ c i. sym (component_summed o l L.alleles w L c (λ _. 0) refl (comps.each c i).2.once (inside c i)))
 
 pub figures_factored : {V : Type 0} (o : Ops V) → Laws o → FiguresFactored o
-figures_factored o l w L sound cs comps = factored o l w L sound cs comps
+figures_factored o l = factored o l
