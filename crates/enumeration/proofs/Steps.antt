@@ -1,57 +1,81 @@
 -- The sum over all assignments, slot by slot.
 -- Assumes nothing.
-use Rattle.std.proofs.Common.{◌≡◌, ℕ, suc, ◌+◌, ◌-◌, ◌*◌, ◌<◌, ◌≤◌, Bool, true, leb, List, [], ◌∷◌, ◌++◌, map, length, get_or, take, Some, None, sym, ap, ◌∙◌, ap₂, append_assoc, arith}
-use Rattle.std.specs.List.{range_with_len}
-use Rattle.std.proofs.lemmas.List.{append-nil, take_at, take_more}
+use Rattle.std.proofs.Common.{◌≡◌, ℕ, suc, ◌+◌, ◌-◌, ◌*◌, ◌<◌, ◌≤◌, Bool, true, false, leb, List, [], ◌∷◌, ◌++◌, map, length, get_or, take, Some, None, sym, ap, ◌∙◌, ap₂, subst, zero-add, append_assoc, length-append, arith}
+use Rattle.std.specs.Bool.{MatchBool}
+use Rattle.std.specs.List.{range_with_len, enumerate_from, AllWithin, HoldsAt}
 use Rattle.std.proofs.lemmas.Bool.{and_from, le-leb, cond-true}
+use Rattle.std.proofs.lemmas.List.{take_at, get_or_default}
+use Rattle.std.proofs.lemmas.List.FromFn.{length-enumerate_from, get_or-enumerate_from}
 use Rattle.algebra.specs.Semiring.{Ops, Laws}
 use Rattle.pedigree.specs.declared.families.Family.{Family}
 use Rattle.pedigree.specs.declared.persons.Meiosis.{Meiosis}
 use Rattle.pedigree.specs.declared.persons.Person.{Person}
 use Rattle.pedigree.specs.Building.{persons_of}
 use Rattle.pedigree.specs.Families.{founders_in}
-use Rattle.pedigree.specs.Slots.{slots_of}
+use Rattle.pedigree.specs.Slots.{slots_of, slots_at, SlotsBelow}
 use Rattle.pedigree.proofs.Descents.{descent_stands}
 use Rattle.pedigree.proofs.Entering.{family_lawful}
 use Rattle.readings.specs.declared.class.Class.{Class}
-use Rattle.figures.specs.Assignments.{assignments}
-use Rattle.figures.specs.Figure.{product, fits_all, weights, figure}
+use Rattle.figures.specs.Assignments.{assignments, allele}
+use Rattle.figures.specs.Figure.{product, fits_all, weights}
 use Rattle.figures.specs.Lists.{fold}
-use Rattle.figures.specs.Locus.{Locus, Reading}
+use Rattle.figures.specs.Locus.{Reading}
 use Rattle.figures.specs.View.{readings_of, locus_of}
-use Rattle.figures.proofs.Folds.{fold_cong, fold_map, fold_joined, fold_append, fold_counting_more, fold_kept, neutral_right}
+use Rattle.figures.proofs.Folds.{fold_cong, fold_map, fold_joined, fold_append, fold_kept, neutral_right}
+use Rattle.figures.proofs.Viewed.{fits_all_from, fits_all_not}
 use Rattle.enumeration.specs.Answer.{answer, small, added, sum_after}
+
+-- what the assignments of the slots add that begin with the alleles given
+abbrev pub sum_behind : {V : Type 0} → Ops V → (ℕ → V) → List Reading → ℕ → ℕ → List ℕ → V
+sum_behind o w rs k slots front = sum_after o w rs k (slots - length front) front
 
 module _ {V : Type 0} (o : Ops V) (l : Laws o) where
   -- one factor more
-  pub product_more : (w : ℕ → V) (ρ : List ℕ) (i : ℕ) → i < length ρ → o.product (product o w (take i ρ)) (w (get_or ρ i 0)) ≡ product o w (take (i + 1) ρ)
-  product_more w ρ i h =
-      ap (o.product (product o w (take i ρ))) (sym (neutral_right l.products (w (get_or ρ i 0))))
-      ∙ sym (fold_append l.products (take i ρ) (get_or ρ i 0 ∷ []) w) ∙ ap (product o w) (sym (take_more ρ i 0 h))
-
-  -- one term more
-  pub sum_more : (f : ℕ → V) (i : ℕ) → o.sum (fold o.zero o.sum (range_with_len 0 i) f) (f i) ≡ fold o.zero o.sum (range_with_len 0 (i + 1)) f
-  sum_more f i = sym (fold_counting_more l.sums i f)
+  pub product_more : (w : ℕ → V) (ρ : List ℕ) (a : ℕ) → o.product (product o w ρ) (w a) ≡ product o w (ρ ++ a ∷ [])
+  product_more w ρ a =
+      ap (o.product (product o w ρ)) (sym (neutral_right l.products (w a))) ∙ sym (fold_append l.products ρ (a ∷ []) w)
 
   module _ (w : ℕ → V) (rs : List Reading) (k : ℕ) where
-    pub after_all : (front : List ℕ) → sum_after o w rs k 0 front ≡ added o w rs front
-    after_all front =
-        neutral_right l.sums (added o w rs (front ++ [])) ∙ ap (added o w rs) (append-nil front)
-
-    pub after_more : (n : ℕ) (front : List ℕ) → sum_after o w rs k (suc n) front ≡ fold o.zero o.sum (range_with_len 0 k) (λ a. sum_after o w rs k n (front ++ a ∷ []))
+    after_more : (n : ℕ) (front : List ℕ) → sum_after o w rs k (suc n) front ≡ fold o.zero o.sum (range_with_len 0 k) (λ a. sum_after o w rs k n (front ++ a ∷ []))
     after_more n front =
         fold_joined l.sums (λ a. map (λ ρ. a ∷ ρ) (assignments n k)) (λ ρ. added o w rs (front ++ ρ)) (range_with_len 0 k)
         ∙ fold_cong o.zero o.sum (range_with_len 0 k) _ _
         (λ a. fold_map o.zero o.sum (λ ρ. a ∷ ρ) (λ ρ. added o w rs (front ++ ρ)) (assignments n k)
         ∙ fold_cong o.zero o.sum (assignments n k) _ _ (λ ρ. ap (added o w rs) (sym (append_assoc front (a ∷ []) ρ))))
 
-    pub after_slot : (slots slot : ℕ) (front : List ℕ) → slot < slots → sum_after o w rs k (slots - slot) front ≡ fold o.zero o.sum (range_with_len 0 k) (λ a. sum_after o w rs k (slots - (slot + 1)) (front ++ a ∷ []))
-    after_slot slots slot front h =
-        let e : slots - slot ≡ suc (slots - (slot + 1)) = omega arith in
-        ap (λ n. sum_after o w rs k n front) e ∙ after_more (slots - (slot + 1)) front
+    pub behind_more : (slots : ℕ) (front : List ℕ) → length front < slots → fold o.zero o.sum (range_with_len 0 k) (λ a. sum_behind o w rs k slots (front ++ a ∷ [])) ≡ sum_behind o w rs k slots front
+    behind_more slots front h =
+        let n = slots - (length front + 1) in
+        let one_less : (a : ℕ) → slots - length (front ++ a ∷ []) ≡ n = λ a. omega (arith, length-append front (a ∷ [])) in
+        let e : slots - length front ≡ suc n = omega arith in
+        fold_cong o.zero o.sum (range_with_len 0 k) _ _ (λ a. ap (λ m. sum_after o w rs k m (front ++ a ∷ [])) (one_less a))
+        ∙ sym (ap (λ m. sum_after o w rs k m front) e ∙ after_more n front)
 
-  pub figure_after : (w : ℕ → V) (L : Locus) → figure o w L ≡ sum_after o w L.readings L.alleles L.slots []
-  figure_after w L = fold_kept l.sums (fits_all L.readings) (product o w) (assignments L.slots L.alleles)
+-- the persons, gone through with their numbers
+module _ (held : List (ℕ × ℕ)) where
+  person_at : (k : ℕ) (d : ℕ × (ℕ × ℕ)) → k < length held → get_or (enumerate_from 0 held) k d ≡ (k, slots_at held k)
+  person_at k d h = get_or-enumerate_from 0 held k d h ∙ ap₂ (λ i e. (i, e)) (zero-add k) (get_or_default held k d.1 (0, 0) h)
+
+  pub person_below : (n : ℕ) → SlotsBelow n held → (p : ℕ × (ℕ × ℕ)) (k : ℕ) → k < length (enumerate_from 0 held) → p ≡ get_or (enumerate_from 0 held) k p → (p.1.0 < n) × (p.1.1 < n)
+  person_below n b p k h e =
+      let l : k < length held = omega (arith, length-enumerate_from 0 held) in
+      subst (λ q. (q.1.0 < n) × (q.1.1 < n)) (sym (e ∙ person_at k p l)) (b k l)
+
+  module _ (class : ℕ → Class) (fit : ℕ → ℕ → ℕ → Bool) (ρ : List ℕ) where
+    abbrev pub fits_at : Bool → ℕ × (ℕ × ℕ) → Type 0
+    fits_at b p = fit p.0 (allele ρ p.1.0) (allele ρ p.1.1) ≡ b
+
+    pub fits_each : (b : Bool) → MatchBool b (AllWithin (fits_at true) (enumerate_from 0 held) 0 (length (enumerate_from 0 held))) ((k : ℕ) × (k < length (enumerate_from 0 held)) × HoldsAt (fits_at false) (enumerate_from 0 held) k) → b ≡ fits_all (readings_of held class fit) ρ
+    fits_each true h =
+        sym (fits_all_from held class fit ρ (λ k l. subst (fits_at true) (person_at k (0, (0, 0)) l) (h k (0, (0, 0)) (omega arith) (omega (arith, length-enumerate_from 0 held)))))
+    fits_each false (k, l, h) =
+        let l' : k < length held = omega (arith, length-enumerate_from 0 held) in
+        sym (fits_all_not held class fit ρ k l' (subst (fits_at false) (person_at k (0, (0, 0)) l') (h (0, (0, 0)))))
+
+-- without its last allele
+pub without_last : (front : List ℕ) (a : ℕ) (longer : List ℕ) → longer ≡ front ++ a ∷ [] → take (length longer - 1) longer ≡ front
+without_last front a longer e =
+    ap (take (length longer - 1)) e ∙ take_at front (a ∷ []) (length longer - 1) (omega (arith, ap length e, length-append front (a ∷ [])))
 
 -- the slots of a family's persons, in front of what the memory holds behind them
 pub front_held : (f : Family) (bits : List Meiosis) (held rest : List (ℕ × ℕ)) → held ≡ slots_of (persons_of f) bits ++ rest → take (length (persons_of f)) held ≡ slots_of (persons_of f) bits
@@ -64,5 +88,5 @@ answered o l persons bits class fits costs slots held x e few least h s =
     let L = locus_of persons bits (length costs) class fits in
     let small-enough : small persons costs ≡ true = and_from (leb (2 * founders_in persons) 8) (leb (length costs) 4) (le-leb _ _ (omega arith)) (le-leb _ _ least) in
     let n : slots - 0 ≡ 2 * founders_in persons = omega arith in
-    ap Some (s ∙ ap₂ (λ hs m. sum_after o (weights o costs) (readings_of hs class fits) (length costs) m []) h n ∙ sym (figure_after o l (weights o costs) L))
+    ap Some (s ∙ ap₂ (λ hs m. sum_after o (weights o costs) (readings_of hs class fits) (length costs) m []) h n ∙ sym (fold_kept l.sums (fits_all L.readings) (product o (weights o costs)) (assignments L.slots L.alleles)))
     ∙ sym (cond-true (small persons costs) _ None small-enough)

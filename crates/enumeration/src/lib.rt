@@ -1,14 +1,17 @@
 // The figure of a small locus by its definition: every assignment is tried.
 #![tactic(auto)]
 
-ghost use Rattle.std.specs.Prelude.{◌≡◌, ◌-◌, ◌≤◌, length, take, slice_index};
+ghost use Rattle.std.specs.Prelude.{◌≡◌, ◌-◌, ◌≤◌, length};
+ghost use Rattle.arrayvec.specs.ArrayVec.{array_vec_len};
 ghost use Rattle.pedigree.specs.Building.{persons_of};
 ghost use Rattle.pedigree.specs.Slots.{SlotsBelow};
 ghost use Rattle.figures.specs.Figure.{weights, product, fits_all};
 ghost use Rattle.figures.specs.View.{readings_of};
+ghost use Rattle.enumeration.specs.declared.TheConstants.{MOST_SLOTS, MOST_ALLELES};
 ghost use Rattle.enumeration.specs.Answer.{answer, added, sum_after};
 
 use algebra::Algebra;
+use arrayvec::ArrayVec;
 use pedigree::{Family, Meiosis};
 use readings::model::Model;
 
@@ -33,89 +36,87 @@ pub fn figure_by_enumeration<V: Algebra, M: Model>(
         return None;
     }
     let held = family.all_slots(bits);
-    Some(sum_from(
+    let small = SmallLocus {
         model,
         locus,
-        &held[0..family.count()],
+        held: &held[..family.count()],
         costs,
         slots,
-        [0; 8],
-        0,
-    ))
+    };
+    let mut alleles = ArrayVec::new();
+    Some(small.sum_from(&mut alleles))
 }
 
-// The sum over the assignments whose alleles of the slots below `slot` are given.
-fn sum_from<V: Algebra, M: Model>(
-    model: &M,
+// A locus small enough to try every assignment: its number and the model that reads it, the two slots that each person holds, one cost for each
+// allele, and how many slots there are.
+#[derive(Drop)]
+struct SmallLocus<'a, M> {
+    model: &'a M,
     locus: usize,
-    held: &[(usize, usize)],
-    costs: &[u16],
+    held: &'a [(usize, usize)],
+    costs: &'a [u16],
     slots: usize,
-    alleles: [u8; 8],
-    slot: usize,
-) -> V
-    requires { (slots ≤ 8) × ((slot ≤ slots) × ((length costs.now ≤ 4) × (SlotsBelow slots held.now))) }
-    ensures { result ≡ sum_after V.Algebra.operations (weights V.Algebra.operations costs.now) (readings_of held.now (M.Model.classes model.now locus) (M.Model.fitting model.now locus)) (length costs.now) (slots - slot) (take slot alleles) }
-{
-    if slot >= slots {
-        return term(model, locus, held, costs, &alleles[0..slots]);
-    }
-    let mut total = V::zero();
-    for allele in 0..costs.len() {
-        let mut longer = alleles;
-        longer[slot] = allele as u8;
-        total = total.sum(sum_from(model, locus, held, costs, slots, longer, slot + 1));
-    }
-    total
+    ghost few_slots: { slots ≤ MOST_SLOTS },
+    ghost few_alleles: { length costs.now ≤ MOST_ALLELES },
+    ghost held_below: { SlotsBelow slots held.now },
 }
 
-// The product of an assignment, or zero where it breaks a reading.
-fn term<V: Algebra, M: Model>(
-    model: &M,
-    locus: usize,
-    held: &[(usize, usize)],
-    costs: &[u16],
-    alleles: &[u8],
-) -> V
-    requires { SlotsBelow (length alleles.now) held.now }
-    ensures { result ≡ added V.Algebra.operations (weights V.Algebra.operations costs.now) (readings_of held.now (M.Model.classes model.now locus) (M.Model.fitting model.now locus)) alleles.now }
-{
-    if fits_readings(model, locus, held, alleles) {
-        weighed(costs, alleles)
-    } else {
-        V::zero()
+impl<M: Model> SmallLocus<'_, M> {
+    // The sum over the assignments that begin with the alleles given.
+    fn sum_from<V: Algebra>(&self, alleles: &mut ArrayVec<u8, MOST_SLOTS>) -> V
+        requires { array_vec_len alleles.old ≤ self.now.slots }
+        ensures value { result ≡ sum_after V.Algebra.operations (weights V.Algebra.operations self.now.costs.now) (readings_of self.now.held.now (M.Model.classes self.now.model.now self.now.locus) (M.Model.fitting self.now.model.now self.now.locus)) (length self.now.costs.now) (self.now.slots - array_vec_len alleles.old) alleles.old.items }
+        ensures unchanged { alleles.new ≡ alleles.old }
+    {
+        if alleles.len() == self.slots {
+            return self.term(alleles.as_slice());
+        }
+        let mut total = V::zero();
+        for allele in 0..self.costs.len() as u8 {
+            alleles.push(allele);
+            total = total.sum(self.sum_from(alleles));
+            alleles.pop();
+        }
+        total
     }
-}
 
-// Whether an assignment fits the readings of all persons.
-fn fits_readings<M: Model>(model: &M, locus: usize, held: &[(usize, usize)], alleles: &[u8]) -> bool
-    requires { SlotsBelow (length alleles.now) held.now }
-    ensures { result ≡ fits_all (readings_of held.now (M.Model.classes model.now locus) (M.Model.fitting model.now locus)) alleles.now }
-{
-    for person in 0..held.len() {
-        let (maternal, paternal) = held[person];
-        if !model.fits(locus, person, alleles[maternal], alleles[paternal]) {
-            return false;
+    // The product of an assignment, or zero where it breaks a reading.
+    fn term<V: Algebra>(&self, alleles: &[u8]) -> V
+        requires { length alleles.now ≡ self.now.slots }
+        ensures { result ≡ added V.Algebra.operations (weights V.Algebra.operations self.now.costs.now) (readings_of self.now.held.now (M.Model.classes self.now.model.now self.now.locus) (M.Model.fitting self.now.model.now self.now.locus)) alleles.now }
+    {
+        if self.fits_readings(alleles) {
+            self.product(alleles)
+        } else {
+            V::zero()
         }
     }
-    true
-}
 
-// The weights of the alleles of all slots multiplied.
-fn weighed<V: Algebra>(costs: &[u16], alleles: &[u8]) -> V
-    ensures { result ≡ product V.Algebra.operations (weights V.Algebra.operations costs.now) alleles.now }
-{
-    let mut product = V::one();
-    for allele in alleles {
-        product = product.product(V::weight(cost_of(costs, *allele)));
+    // Whether an assignment fits the readings of all persons.
+    fn fits_readings(&self, alleles: &[u8]) -> bool
+        requires { length alleles.now ≡ self.now.slots }
+        ensures { result ≡ fits_all (readings_of self.now.held.now (M.Model.classes self.now.model.now self.now.locus) (M.Model.fitting self.now.model.now self.now.locus)) alleles.now }
+    {
+        self.held.iter().enumerate().all(|(person, &(maternal, paternal))| {
+            self.model
+                .fits(self.locus, person, alleles[maternal], alleles[paternal])
+        })
     }
-    product
-}
 
-// The cost of an allele, 0 where none is given.
-fn cost_of(costs: &[u16], allele: u8) -> u16
-    ensures { result ≡ slice_index costs.now allele }
-{
-    let place = allele as usize;
-    if place < costs.len() { costs[place] } else { 0 }
+    // The weights of the alleles of all slots multiplied.
+    fn product<V: Algebra>(&self, alleles: &[u8]) -> V
+        ensures { result ≡ product V.Algebra.operations (weights V.Algebra.operations self.now.costs.now) alleles.now }
+    {
+        alleles.iter().fold(
+            V::one(),
+            |product, allele| product.product(self.weight(*allele)),
+        )
+    }
+
+    // The weight of an allele's cost, which is 0 where none is given.
+    fn weight<V: Algebra>(&self, allele: u8) -> V
+        ensures { result ≡ weights V.Algebra.operations self.now.costs.now allele }
+    {
+        V::weight(self.costs.get(usize::from(allele)).copied().unwrap_or(0))
+    }
 }

@@ -1,6 +1,6 @@
 -- A component that has a link and only named readings has at most two fitting assignments: one allele settles all others.
 -- Assumes nothing.
-use Rattle.std.proofs.Common.{◌≡◌, ℕ, ◌<◌, ◌≤◌, min, max, true, cond, ◌&&◌, eqb, ◌⊎◌, List, [], ◌∷◌, length, sym, refl, ◌∙◌, subst, ap₂, inl, inr, arith}
+use Rattle.std.proofs.Common.{◌≡◌, ℕ, ◌<◌, ◌≤◌, min, max, true, cond, eqb, ◌⊎◌, List, [], ◌∷◌, length, sym, refl, ◌∙◌, subst, ap₂, inl, inr, arith}
 use Rattle.std.proofs.lemmas.Bool.{and_parts, cases_lt, cond-true, cond-false, eq-eqb, ne_eqb, eqb-true, false≢true}
 use Rattle.readings.specs.declared.class.Class.{Class}
 use Rattle.readings.specs.declared.class.Class.TheVariants.{Silent, Named, Several}
@@ -33,41 +33,38 @@ same_alleles (s ∷ c) (a ∷ σ) (b ∷ τ) o p q h =
     later : (t : ℕ) → In t c → (x : ℕ) (ξ : List ℕ) → cond (eqb t s) x (allele_at c ξ t) ≡ allele_at c ξ t
     later t i x ξ = cond-false (eqb t s) x (allele_at c ξ t) (ne_eqb t s (λ e. o.0 (subst (λ u. In u c) e i)))
 
--- a named pair and one of its alleles settle the other
-other_settled : (a b x y z : ℕ) → (eqb (min x y) a && eqb (max x y) b) ≡ true → (eqb (min x z) a && eqb (max x z) b) ≡ true → y ≡ z
-other_settled a b x y z p q =
-    let r = and_parts (eqb (min x y) a) (eqb (max x y) b) p in
-    let t = and_parts (eqb (min x z) a) (eqb (max x z) b) q in
-    omega (arith, eqb-true (min x y) a r.0, eqb-true (max x y) b r.1, eqb-true (min x z) a t.0, eqb-true (max x z) b t.1)
-
 module _ (L : Locus) (sound : Sound L) (s : ℕ) (c : List ℕ) (comp : Component L.slots (links L.readings) s c) (named : (r : Reading) → In r (own c L.readings) → r.class ≡ Several → ⊥) where
+  -- the named pair of a reading of the component
+  pair : (r : Reading) → In r (own c L.readings) → (a : ℕ) × (b : ℕ) × (r.class ≡ Named a b)
+  pair r i = loud_named r.class (own_in c L.readings r i).1 (named r i)
+
+  -- the alleles that fit it are that pair
+  paired : (r : Reading) (i : In r (own c L.readings)) (x y : ℕ) → r.fits x y ≡ true → (min x y ≡ (pair r i).0) × (max x y ≡ (pair r i).1)
+  paired r i x y e =
+      let m = pair r i in
+      let t = and_parts (eqb (min x y) m.0) (eqb (max x y) m.1) (sym (sound.named r m.0 m.1 x y (own_in c L.readings r i).0 m.2) ∙ e) in
+      (eqb-true (min x y) m.0 t.0, eqb-true (max x y) m.1 t.1)
+
+  fit_of : (ξ : List ℕ) → fits_own c L.readings ξ ≡ true → (r : Reading) → In r (own c L.readings) → r.fits (allele_at c ξ r.ends.0) (allele_at c ξ r.ends.1) ≡ true
+  fit_of ξ e r i = every_at (λ x. x.fits (allele_at c ξ x.ends.0) (allele_at c ξ x.ends.1)) r (own c L.readings) e i
+
   module _ (σ τ : List ℕ) (f : fits_own c L.readings σ ≡ true) (g : fits_own c L.readings τ ≡ true) where
     -- a slot of the component at which the two agree
     Agree : ℕ → Type 0
     Agree t = In t c × (allele_at c σ t ≡ allele_at c τ t)
 
-    pair_of : (r : Reading) (i : In r (own c L.readings)) (x y z : ℕ) → (r.fits x y ≡ true) → (r.fits x z ≡ true) → y ≡ z
-    pair_of r i x y z p q =
-        let o = own_in c L.readings r i in
-        let m = loud_named r.class o.1 (named r i) in
-        other_settled m.0 m.1 x y z (sym (sound.named r m.0 m.1 x y o.0 m.2) ∙ p) (sym (sound.named r m.0 m.1 x z o.0 m.2) ∙ q)
+    -- a named pair and one of its alleles settle the other
+    second_settled : (r : Reading) → In r (own c L.readings) → (x y z : ℕ) → r.fits x y ≡ true → r.fits x z ≡ true → y ≡ z
+    second_settled r i x y z p q = let t = paired r i x y p in let u = paired r i x z q in omega (arith, t.0, t.1, u.0, u.1)
 
-    unordered : (r : Reading) (i : In r (own c L.readings)) (x y z : ℕ) → (r.fits y x ≡ true) → (r.fits z x ≡ true) → y ≡ z
-    unordered r i x y z p q =
-        let o = own_in c L.readings r i in
-        let m = loud_named r.class o.1 (named r i) in
-        let s₁ = and_parts (eqb (min y x) m.0) (eqb (max y x) m.1) (sym (sound.named r m.0 m.1 y x o.0 m.2) ∙ p) in
-        let s₂ = and_parts (eqb (min z x) m.0) (eqb (max z x) m.1) (sym (sound.named r m.0 m.1 z x o.0 m.2) ∙ q) in
-        omega (arith, eqb-true (min y x) m.0 s₁.0, eqb-true (max y x) m.1 s₁.1, eqb-true (min z x) m.0 s₂.0, eqb-true (max z x) m.1 s₂.1)
-
-    fit_of : (ξ : List ℕ) → fits_own c L.readings ξ ≡ true → (r : Reading) → In r (own c L.readings) → r.fits (allele_at c ξ r.ends.0) (allele_at c ξ r.ends.1) ≡ true
-    fit_of ξ e r i = every_at (λ x. x.fits (allele_at c ξ x.ends.0) (allele_at c ξ x.ends.1)) r (own c L.readings) e i
+    first_settled : (r : Reading) → In r (own c L.readings) → (x y z : ℕ) → r.fits y x ≡ true → r.fits z x ≡ true → y ≡ z
+    first_settled r i x y z p q = let t = paired r i y x p in let u = paired r i z x q in omega (arith, t.0, t.1, u.0, u.1)
 
     along : (r : Reading) → In r L.readings → loud r.class ≡ true → (Agree r.ends.0 → Agree r.ends.1) × (Agree r.ends.1 → Agree r.ends.0)
     unfolding Agree
     along r i e = (
-      (λ h. (onward h.0, pair_of r (in_own c L.readings r i e h.0) (allele_at c σ r.ends.0) (allele_at c σ r.ends.1) (allele_at c τ r.ends.1) (fit_of σ f r (in_own c L.readings r i e h.0)) (subst (λ x. r.fits x (allele_at c τ r.ends.1) ≡ true) (sym h.1) (fit_of τ g r (in_own c L.readings r i e h.0))))),
-      (λ h. let first = backward h.0 in (first, unordered r (in_own c L.readings r i e first) (allele_at c σ r.ends.1) (allele_at c σ r.ends.0) (allele_at c τ r.ends.0) (fit_of σ f r (in_own c L.readings r i e first)) (subst (λ x. r.fits (allele_at c τ r.ends.0) x ≡ true) (sym h.1) (fit_of τ g r (in_own c L.readings r i e first))))),
+      (λ h. (onward h.0, second_settled r (in_own c L.readings r i e h.0) (allele_at c σ r.ends.0) (allele_at c σ r.ends.1) (allele_at c τ r.ends.1) (fit_of σ f r (in_own c L.readings r i e h.0)) (subst (λ x. r.fits x (allele_at c τ r.ends.1) ≡ true) (sym h.1) (fit_of τ g r (in_own c L.readings r i e h.0))))),
+      (λ h. let first = backward h.0 in (first, first_settled r (in_own c L.readings r i e first) (allele_at c σ r.ends.1) (allele_at c σ r.ends.0) (allele_at c τ r.ends.0) (fit_of σ f r (in_own c L.readings r i e first)) (subst (λ x. r.fits (allele_at c τ r.ends.0) x ≡ true) (sym h.1) (fit_of τ g r (in_own c L.readings r i e first))))),
     )
       where
         onward : In r.ends.0 c → In r.ends.1 c
@@ -95,25 +92,20 @@ module _ (L : Locus) (sound : Sound L) (s : ℕ) (c : List ℕ) (comp : Componen
 
   two : (r : Reading) → In r (own c L.readings) → length (kept (fits_own c L.readings) (assignments (length c) L.alleles)) ≤ 2
   two r i =
-      let m = loud_named r.class (own_in c L.readings r i).1 (named r i) in
+      let m = pair r i in
       no_more (λ σ x. allele_at c σ r.ends.0 ≡ x) (kept (fits_own c L.readings) (assignments (length c) L.alleles)) (m.0 ∷ (m.1 ∷ []))
       (λ σ τ x j k e d.
       let a = kept_in (fits_own c L.readings) σ (assignments (length c) L.alleles) j in
       let b = kept_in (fits_own c L.readings) τ (assignments (length c) L.alleles) k in
       agreed σ τ a.0 b.0 (listed_fits (length c) L.alleles σ a.1).0 (listed_fits (length c) L.alleles τ b.1).0 r.ends.0 (own_in c L.readings r i).2 (e ∙ sym d))
       (once_kept (fits_own c L.readings) (assignments (length c) L.alleles) (once_assignments (length c) L.alleles))
-      (λ σ j. let a = kept_in (fits_own c L.readings) σ (assignments (length c) L.alleles) j in choose σ a.0 m (cases_lt (allele_at c σ r.ends.0) (allele_at c σ r.ends.1)))
+      (λ σ j.
+      let t = paired r i (allele_at c σ r.ends.0) (allele_at c σ r.ends.1) (fit_of σ (kept_in (fits_own c L.readings) σ (assignments (length c) L.alleles) j).0 r i) in
+      one_of (allele_at c σ r.ends.0) (allele_at c σ r.ends.1) m.0 m.1 t.0 t.1 (cases_lt (allele_at c σ r.ends.0) (allele_at c σ r.ends.1)))
     where
-      choose : (σ : List ℕ) → fits_own c L.readings σ ≡ true → (m : (a : ℕ) × (b : ℕ) × (r.class ≡ Named a b)) → (allele_at c σ r.ends.0 < allele_at c σ r.ends.1) ⊎ (allele_at c σ r.ends.1 ≤ allele_at c σ r.ends.0) → (x : ℕ) × In x (m.0 ∷ (m.1 ∷ [])) × (allele_at c σ r.ends.0 ≡ x)
-      choose σ f m side =
-          let x = allele_at c σ r.ends.0 in
-          let y = allele_at c σ r.ends.1 in
-          let t = and_parts (eqb (min x y) m.0) (eqb (max x y) m.1) (sym (sound.named r m.0 m.1 x y (own_in c L.readings r i).0 m.2) ∙ every_at (λ q. q.fits (allele_at c σ q.ends.0) (allele_at c σ q.ends.1)) r (own c L.readings) f i) in
-          pick x y (eqb-true (min x y) m.0 t.0) (eqb-true (max x y) m.1 t.1) side
-        where
-          pick : (x y : ℕ) → min x y ≡ m.0 → max x y ≡ m.1 → (x < y) ⊎ (y ≤ x) → (z : ℕ) × In z (m.0 ∷ (m.1 ∷ [])) × (x ≡ z)
-          pick x y p q (inl h) = (m.0, inl refl, omega (arith, p))
-          pick x y p q (inr h) = (m.1, inr (inl refl), omega (arith, q))
+      one_of : (x y a b : ℕ) → min x y ≡ a → max x y ≡ b → (x < y) ⊎ (y ≤ x) → (z : ℕ) × In z (a ∷ (b ∷ [])) × (x ≡ z)
+      one_of x y a b p q (inl h) = (a, inl refl, omega (arith, p))
+      one_of x y a b p q (inr h) = (b, inr (inl refl), omega (arith, q))
 
 pub two_at_most : TwoAtMost
 two_at_most L sound s c comp r i named = two L sound s c comp named r i

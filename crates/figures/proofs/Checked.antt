@@ -1,8 +1,9 @@
 -- The rows of the check families hold: one test computes all of them.
 -- Assumes nothing.
-use Rattle.std.proofs.Common.{◌≡◌, ℕ, Bool, true, ◌&&◌, eqb, List, [], ◌∷◌, length, refl, subst}
+use Rattle.std.proofs.Common.{◌≡◌, ℕ, Bool, true, ◌&&◌, eqb, List, [], ◌∷◌, length, refl, subst, arith}
 use Rattle.std.specs.List.{AllByRecursion}
-use Rattle.std.proofs.lemmas.Bool.{eqb-true, and_parts}
+use Rattle.std.proofs.lemmas.Bool.{and_parts}
+use Rattle.std.proofs.lemmas.Bool.Decides.{nat_tests}
 use Rattle.algebra.specs.Count.{count_ops}
 use Rattle.algebra.specs.Least.{least_ops}
 use Rattle.algebra.specs.Best.{best_ops}
@@ -35,11 +36,12 @@ passes r =
 passed : (r : Row) → passes r ≡ true → Holds r
 unfolding passes counts leasts best_costs best_numbers named
 passed r t =
-    let a = and_parts (eqb (counts r) r.count) (eqb (leasts r) r.least && (eqb (best_costs r) r.best.0 && (eqb (best_numbers r) r.best.1 && eqb (named r) r.parts))) t in
-    let b = and_parts (eqb (leasts r) r.least) (eqb (best_costs r) r.best.0 && (eqb (best_numbers r) r.best.1 && eqb (named r) r.parts)) a.1 in
-    let c = and_parts (eqb (best_costs r) r.best.0) (eqb (best_numbers r) r.best.1 && eqb (named r) r.parts) b.1 in
-    let d = and_parts (eqb (best_numbers r) r.best.1) (eqb (named r) r.parts) c.1 in
-    (eqb-true (counts r) r.count a.0, eqb-true (leasts r) r.least b.0, eqb-true (best_costs r) r.best.0 c.0, eqb-true (best_numbers r) r.best.1 d.0, subst (Parts (locus r).slots (links (locus r).readings)) (eqb-true (named r) r.parts d.1) (parts_named (locus r).slots (links (locus r).readings)))
+    let a : counts r ≡ r.count = grind (arith, nat_tests) in
+    let b : leasts r ≡ r.least = grind (arith, nat_tests) in
+    let c : best_costs r ≡ r.best.0 = grind (arith, nat_tests) in
+    let d : best_numbers r ≡ r.best.1 = grind (arith, nat_tests) in
+    let e : named r ≡ r.parts = grind (arith, nat_tests) in
+    (a, b, c, d, subst (Parts (locus r).slots (links (locus r).readings)) e (parts_named (locus r).slots (links (locus r).readings)))
 
 all_passed : (rs : List Row) → every passes rs ≡ true → AllByRecursion Holds rs
 all_passed [] t = tt

@@ -12,15 +12,13 @@ use Rattle.figures.specs.Figure.{figure}
 use Rattle.figures.specs.Graph.{join, link, Component, Components, Sound, links, has, own, component_sum}
 use Rattle.figures.specs.Statements.{FiguresFactored}
 use Rattle.figures.proofs.Folds.{fold_cong_in, fold_joined, fold_perm}
-use Rattle.figures.proofs.Members.{in_left, in_right, joined_in, in_map, in_kept, kept_in, in_counting, counting_in, once_counting, every_from, every_at, has_in, in_has}
+use Rattle.figures.proofs.Members.{in_right, joined_in, in_map, in_kept, kept_in, in_counting, counting_in, once_counting, every_from, every_at, has_in, in_has}
 use Rattle.figures.proofs.Perms.{Perm, same_members}
 use Rattle.figures.proofs.SlotSums.{update_other, sum_cong, sum_perm, sum_factors, Local, Disjoint, absorbs_right}
 use Rattle.figures.proofs.Placed.{fits_at, term_of, figure_summed, component_summed}
 
 pub same_truth : (a b : Bool) → (a ≡ true → b ≡ true) → (b ≡ true → a ≡ true) → a ≡ b
-same_truth true b f g = sym (f refl)
-same_truth false true f g = g refl
-same_truth false false f g = refl
+same_truth a b f g = grind arith
 
 pub not_loud : (c : Class) → loud c ≡ false → c ≡ Silent
 not_loud Silent e = refl
@@ -32,10 +30,6 @@ pub once_apart : {X : Type 0} (xs ys : List X) → Once (xs ++ ys) → (x : X) �
 once_apart [] ys o x i j = elim i [ ]
 once_apart (z ∷ xs) ys o x (inl e) j = o.0 (in_right z xs ys (subst (λ t. In t ys) e j))
 once_apart (z ∷ xs) ys o x (inr i) j = once_apart xs ys o.1 x i j
-
-pub once_front : {X : Type 0} (xs ys : List X) → Once (xs ++ ys) → Once xs
-once_front [] ys o = tt
-once_front (x ∷ xs) ys o = (λ i. o.0 (in_left x xs ys i), once_front xs ys o.1)
 
 once_back : {X : Type 0} (xs ys : List X) → Once (xs ++ ys) → Once ys
 once_back [] ys o = o
@@ -129,4 +123,4 @@ module _ {V : Type 0} (o : Ops V) (l : Laws o) (w : ℕ → V) (L : Locus) (soun
       ∙ fold_cong_in o.one o.product cs _ _ (λ c i. sym (component_summed o l L.alleles w L c (λ _. 0) refl (comps.each c i).2.once (inside c i)))
 
 pub figures_factored : {V : Type 0} (o : Ops V) → Laws o → FiguresFactored o
-figures_factored o l w L sound cs comps = factored o l w L sound cs comps
+figures_factored o l = factored o l

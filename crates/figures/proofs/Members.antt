@@ -3,6 +3,7 @@
 use Rattle.std.proofs.Common.{◌≡◌, ℕ, zero, suc, ◌+◌, ◌<◌, ◌≤◌, Bool, true, false, cond, eqb, ◌⊎◌, List, [], ◌∷◌, ◌++◌, map, length, sym, refl, ap, ◌∙◌, subst, inl, inr, arith}
 use Rattle.std.specs.List.{range_with_len, flat_map}
 use Rattle.std.proofs.lemmas.Bool.{both_ways, cases_lt, false≢true, and_from, and_left, and_right, and_parts, or_cases, or_left, or_right, eqb-true, eq-eqb}
+use Rattle.std.proofs.Math.Logic.{⊎_map}
 use Rattle.figures.specs.Lists.{every, kept, In, Once}
 use Rattle.figures.specs.Graph.{has}
 
@@ -19,11 +20,7 @@ module _ {X : Type 0} where
   pub in_append : (x : X) (xs ys : List X) → In x (xs ++ ys) → In x xs ⊎ In x ys
   in_append x [] ys i = inr i
   in_append x (y ∷ xs) ys (inl e) = inl (inl e)
-  in_append x (y ∷ xs) ys (inr i) = go (in_append x xs ys i)
-    where
-      go : In x xs ⊎ In x ys → In x (y ∷ xs) ⊎ In x ys
-      go (inl j) = inl (inr j)
-      go (inr j) = inr j
+  in_append x (y ∷ xs) ys (inr i) = ⊎_map inr (λ j. j) (in_append x xs ys i)
 
   pub in_kept : (p : X → Bool) (x : X) (xs : List X) → p x ≡ true → In x xs → In x (kept p xs)
   in_kept p x [] t i = elim i [ ]
@@ -54,11 +51,8 @@ module _ {X : Type 0} where
 
   pub once_append : (xs ys : List X) → Once xs → Once ys → ((x : X) → In x xs → In x ys → ⊥) → Once (xs ++ ys)
   once_append [] ys o p d = p
-  once_append (x ∷ xs) ys o p d = (λ i. out (in_append x xs ys i), once_append xs ys o.1 p (λ y i j. d y (inr i) j))
-    where
-      out : In x xs ⊎ In x ys → ⊥
-      out (inl i) = o.0 i
-      out (inr i) = d x (inl refl) i
+  once_append (x ∷ xs) ys o p d =
+      ((λ i. elim (in_append x xs ys i) [ inl j ↦ o.0 j | inr j ↦ d x (inl refl) j ]), once_append xs ys o.1 p (λ y i j. d y (inr i) j))
 
 module _ {X Y : Type 0} where
   pub in_map : (f : X → Y) (x : X) (xs : List X) → In x xs → In (f x) (map f xs)
@@ -83,11 +77,8 @@ module _ {X Y : Type 0} where
 
   pub joined_in : (f : X → List Y) (y : Y) (xs : List X) → In y (flat_map f xs) → (x : X) × In x xs × In y (f x)
   joined_in f y [] i = elim i [ ]
-  joined_in f y (z ∷ xs) i = go (λ j. let r = joined_in f y xs j in (r.0, inr r.1, r.2)) (in_append y (f z) (flat_map f xs) i)
-    where
-      go : (In y (flat_map f xs) → (x : X) × In x (z ∷ xs) × In y (f x)) → In y (f z) ⊎ In y (flat_map f xs) → (x : X) × In x (z ∷ xs) × In y (f x)
-      go later (inl j) = (z, inl refl, j)
-      go later (inr j) = later j
+  joined_in f y (z ∷ xs) i =
+      elim (in_append y (f z) (flat_map f xs) i) [ inl j ↦ (z, inl refl, j) | inr j ↦ let r = joined_in f y xs j in (r.0, inr r.1, r.2) ]
 
   pub once_joined : (f : X → List Y) → ((x : X) → Once (f x)) → ((x z : X) (y : Y) → In y (f x) → In y (f z) → x ≡ z) → (xs : List X) → Once xs → Once (flat_map f xs)
   once_joined f each apart [] o = tt
@@ -102,11 +93,8 @@ counting_in a (suc n) x (inr i) = let r = counting_in (a + 1) n x i in (omega ar
 
 pub in_counting : (a n x : ℕ) → a ≤ x → x < a + n → In x (range_with_len a n)
 in_counting a zero x h l = absurd (omega arith)
-in_counting a (suc n) x h l = go (λ p. in_counting (a + 1) n x (omega arith) (omega arith)) (cases_lt a x)
-  where
-    go : (a < x → In x (range_with_len (a + 1) n)) → (a < x) ⊎ (x ≤ a) → In x (range_with_len a (suc n))
-    go later (inl p) = inr (later p)
-    go later (inr p) = inl (omega arith)
+in_counting a (suc n) x h l =
+    elim (cases_lt a x) [ inl p ↦ inr (in_counting (a + 1) n x (omega arith) (omega arith)) | inr p ↦ inl (omega arith) ]
 
 pub once_counting : (a n : ℕ) → Once (range_with_len a n)
 once_counting a zero = tt
@@ -131,11 +119,7 @@ module _ {X : Type 0} (y : X) where
   in_without x (z ∷ zs) (inl e) (inl q) = inl (q ∙ sym e)
   in_without x (z ∷ zs) (inl e) (inr j) = inr j
   in_without x (z ∷ zs) (inr i) (inl q) = inr (inl q)
-  in_without x (z ∷ zs) (inr i) (inr j) = go (in_without x zs i j)
-    where
-      go : (x ≡ y) ⊎ In x (without zs i) → (x ≡ y) ⊎ In x (z ∷ without zs i)
-      go (inl e) = inl e
-      go (inr k) = inr (inr k)
+  in_without x (z ∷ zs) (inr i) (inr j) = ⊎_map (λ e. e) inr (in_without x zs i j)
 
 -- what is left of a list in which nothing stands twice is the rest of it
 module _ {X : Type 0} (y : X) where
@@ -176,11 +160,7 @@ module _ {X : Type 0} (f : X → Bool) where
 
 pub has_in : (ss : List ℕ) (s : ℕ) → has ss s ≡ true → In s ss
 has_in [] s e = absurd (false≢true e)
-has_in (t ∷ ss) s e = go (λ h. has_in ss s h) (or_cases (eqb s t) (has ss s) e)
-  where
-    go : (has ss s ≡ true → In s ss) → (eqb s t ≡ true) ⊎ (has ss s ≡ true) → In s (t ∷ ss)
-    go ih (inl q) = inl (eqb-true s t q)
-    go ih (inr h) = inr (ih h)
+has_in (t ∷ ss) s e = ⊎_map (eqb-true s t) (has_in ss s) (or_cases (eqb s t) (has ss s) e)
 
 pub in_has : (ss : List ℕ) (s : ℕ) → In s ss → has ss s ≡ true
 in_has [] s i = elim i [ ]
@@ -196,8 +176,8 @@ no_more {X} {Y} R (x ∷ xs) ys apart o partner =
     omega (arith, length_without p.0 ys p.1, rest)
   where
     choose : (p : (y : Y) × In y ys × R x y) (z : X) → In z xs → (t : Y) × In t ys × R z t → (t : Y) × In t (without p.0 ys p.1) × R z t
-    choose p z j q = go (in_without p.0 q.0 ys p.1 q.1)
-      where
-        go : (q.0 ≡ p.0) ⊎ In q.0 (without p.0 ys p.1) → (t : Y) × In t (without p.0 ys p.1) × R z t
-        go (inl e) = absurd (o.0 (subst (λ w. In w xs) (apart z x p.0 (inr j) (inl refl) (subst (R z) e q.2) p.2) j))
-        go (inr k) = (q.0, k, q.2)
+    choose p z j q =
+        elim (in_without p.0 q.0 ys p.1 q.1) [
+          | inl e ↦ absurd (o.0 (subst (λ w. In w xs) (apart z x p.0 (inr j) (inl refl) (subst (R z) e q.2) p.2) j))
+          | inr k ↦ (q.0, k, q.2)
+        ]

@@ -1,7 +1,7 @@
 -- The name of a slot is the lowest slot that links join it to: two slots have one name exactly if a chain joins them.
 -- Assumes nothing.
-use Rattle.std.proofs.Common.{◌≡◌, ℕ, ◌<◌, ◌≤◌, min, max, Bool, true, false, cond, eqb, ◌⊎◌, List, [], ◌∷◌, sym, refl, ap, ◌∙◌, subst, inl, inr, arith}
-use Rattle.std.proofs.lemmas.Bool.{eqb-true, eqb-false, cases_lt}
+use Rattle.std.proofs.Common.{◌≡◌, ℕ, ◌≤◌, min, max, cond, eqb, ◌⊎◌, List, [], ◌∷◌, sym, refl, ap, ◌∙◌, subst, inl, inr, arith}
+use Rattle.std.proofs.lemmas.Bool.Decides.{nat_tests}
 use Rattle.figures.specs.Lists.{In}
 use Rattle.figures.specs.Graph.{Chain, same, link, back, join}
 
@@ -17,33 +17,17 @@ name (l ∷ ls) s =
     let z = name ls s in
     renamed x y z
 
-renamed_cases : (x y z : ℕ) → ((z ≡ max x y) × (renamed x y z ≡ min x y)) ⊎ ((z ≡ max x y → ⊥) × (renamed x y z ≡ z))
-renamed_cases x y z = go (eqb z (max x y)) refl
-  where
-    go : (b : Bool) → eqb z (max x y) ≡ b → ((z ≡ max x y) × (cond b (min x y) z ≡ min x y)) ⊎ ((z ≡ max x y → ⊥) × (cond b (min x y) z ≡ z))
-    go true e = inl (eqb-true z (max x y) e, refl)
-    go false e = inr (eqb-false z (max x y) e, refl)
+renamed_to : (x y z : ℕ) → (renamed x y z ≡ z) ⊎ (((z ≡ x) × (renamed x y z ≡ y)) ⊎ ((z ≡ y) × (renamed x y z ≡ x)))
+renamed_to x y z = grind (arith, nat_tests)
 
 renamed_le : (x y z : ℕ) → renamed x y z ≤ z
-renamed_le x y z = go (renamed_cases x y z)
-  where
-    go : ((z ≡ max x y) × (renamed x y z ≡ min x y)) ⊎ ((z ≡ max x y → ⊥) × (renamed x y z ≡ z)) → renamed x y z ≤ z
-    go (inl p) = omega (arith, p.0, p.1)
-    go (inr p) = omega (arith, p.1)
+renamed_le x y z = grind (arith, nat_tests)
 
 renamed_first : (x y : ℕ) → renamed x y x ≡ min x y
-renamed_first x y = go (renamed_cases x y x)
-  where
-    go : ((x ≡ max x y) × (renamed x y x ≡ min x y)) ⊎ ((x ≡ max x y → ⊥) × (renamed x y x ≡ x)) → renamed x y x ≡ min x y
-    go (inl p) = p.1
-    go (inr p) = p.1 ∙ omega (arith, p.0)
+renamed_first x y = grind (arith, nat_tests)
 
 renamed_second : (x y : ℕ) → renamed x y y ≡ min x y
-renamed_second x y = go (renamed_cases x y y)
-  where
-    go : ((y ≡ max x y) × (renamed x y y ≡ min x y)) ⊎ ((y ≡ max x y → ⊥) × (renamed x y y ≡ y)) → renamed x y y ≡ min x y
-    go (inl p) = p.1
-    go (inr p) = p.1 ∙ omega (arith, p.0)
+renamed_second x y = grind (arith, nat_tests)
 
 pub name_le : (ls : List (ℕ × ℕ)) (s : ℕ) → name ls s ≤ s
 name_le [] s = omega arith
@@ -65,16 +49,12 @@ across l ls p q = join (back (more_links l p)) (join (link (inl refl)) (more_lin
 pub name_chain : (ls : List (ℕ × ℕ)) (s : ℕ) → Chain ls s (name ls s)
 name_chain [] s = same
 name_chain (l ∷ ls) s =
-    join (more_links l (name_chain ls s)) (go (across l ls (name_chain ls l.0) (name_chain ls l.1)) (renamed_cases (name ls l.0) (name ls l.1) (name ls s)))
+    join (more_links l (name_chain ls s)) (go (across l ls (name_chain ls l.0) (name_chain ls l.1)) (renamed_to (name ls l.0) (name ls l.1) (name ls s)))
   where
-    go : Chain (l ∷ ls) (name ls l.0) (name ls l.1) → ((name ls s ≡ max (name ls l.0) (name ls l.1)) × (name (l ∷ ls) s ≡ min (name ls l.0) (name ls l.1))) ⊎ ((name ls s ≡ max (name ls l.0) (name ls l.1) → ⊥) × (name (l ∷ ls) s ≡ name ls s)) → Chain (l ∷ ls) (name ls s) (name (l ∷ ls) s)
-    go c (inr p) = equal_chain (l ∷ ls) (sym p.1)
-    go c (inl p) = side (cases_lt (name ls l.0) (name ls l.1))
-      where
-        side : (name ls l.0 < name ls l.1) ⊎ (name ls l.1 ≤ name ls l.0) → Chain (l ∷ ls) (name ls s) (name (l ∷ ls) s)
-        side (inl h) =
-            join (equal_chain (l ∷ ls) (omega (arith, p.0))) (join (back c) (equal_chain (l ∷ ls) (omega (arith, p.1))))
-        side (inr h) = join (equal_chain (l ∷ ls) (omega (arith, p.0))) (join c (equal_chain (l ∷ ls) (omega (arith, p.1))))
+    go : {x y z r : ℕ} → Chain (l ∷ ls) x y → (r ≡ z) ⊎ (((z ≡ x) × (r ≡ y)) ⊎ ((z ≡ y) × (r ≡ x))) → Chain (l ∷ ls) z r
+    go c (inl e) = equal_chain (l ∷ ls) (sym e)
+    go c (inr (inl p)) = join (equal_chain (l ∷ ls) p.0) (join c (equal_chain (l ∷ ls) (sym p.1)))
+    go c (inr (inr p)) = join (equal_chain (l ∷ ls) p.0) (join (back c) (equal_chain (l ∷ ls) (sym p.1)))
 
 link_name : (ls : List (ℕ × ℕ)) (s t : ℕ) → In (s, t) ls → name ls s ≡ name ls t
 link_name [] s t i = elim i [ ]

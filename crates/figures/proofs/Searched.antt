@@ -1,10 +1,7 @@
 -- The search over the alleles of a list of slots, one slot after the other, weighing each allele as it is set.
 -- Assumes nothing.
-use Rattle.std.proofs.Common.{◌≡◌, ℕ, ◌<◌, Bool, true, false, cond, ◌⊎◌, List, [], ◌∷◌, length, get_or, set, sym, refl, ap, ◌∙◌, inl, inr}
-use mathlib.Core.Path.{fun_ext}
+use Rattle.std.proofs.Common.{◌≡◌, ℕ, Bool, true, false, cond, List, [], ◌∷◌, sym, refl, ap, ◌∙◌, inl, inr}
 use Rattle.std.specs.List.{range_with_len}
-use Rattle.std.proofs.lemmas.List.{get_or-set_same, get_or-set_other}
-use Rattle.std.proofs.lemmas.Bool.{cases_eq}
 use Rattle.algebra.specs.Semiring.{Ops, Laws}
 use Rattle.figures.specs.Lists.{fold, every, In, Once}
 use Rattle.figures.specs.Locus.{Locus}
@@ -12,17 +9,7 @@ use Rattle.figures.specs.Graph.{Component, Sound, links, own, component_sum}
 use Rattle.figures.proofs.Folds.{fold_cong, fold_unit}
 use Rattle.figures.proofs.Placed.{fits_at, component_summed}
 use Rattle.figures.proofs.Factored.{own_inside}
-use Rattle.figures.proofs.SlotSums.{update, update_same, update_other, sum_slots, sum_at, sum_pull, absorbs_right}
-
--- a write into the list of alleles replaces one
-pub set_update : (xs : List ℕ) (s a : ℕ) → s < length xs → (λ t. get_or (set xs s a) t 0) ≡ update (λ t. get_or xs t 0) s a
-set_update xs s a h = fun_ext (λ t. go t (cases_eq t s))
-  where
-    go : (t : ℕ) → (t ≡ s) ⊎ (t ≡ s → ⊥) → get_or (set xs s a) t 0 ≡ update (λ u. get_or xs u 0) s a t
-    go t (inl e) =
-        ap (λ u. get_or (set xs s a) u 0) e ∙ get_or-set_same xs s a 0 h
-        ∙ sym (ap (update (λ u. get_or xs u 0) s a) e ∙ update_same (λ u. get_or xs u 0) s a)
-    go t (inr ne) = get_or-set_other xs s t a 0 ne ∙ sym (update_other (λ u. get_or xs u 0) s a t ne)
+use Rattle.figures.proofs.SlotSums.{update, update_same, sum_slots, sum_at, sum_pull, absorbs_right}
 
 module _ {V : Type 0} (o : Ops V) (k : ℕ) (w : ℕ → V) (h : (ℕ → ℕ) → Bool) where
   -- each allele of each slot weighed; one where the test passes at the end, zero where it fails

@@ -13,21 +13,35 @@ use Rattle.figures.proofs.Names.{name, name_le, name_chain, name_own, chain_name
 abbrev pub names : ℕ → List (ℕ × ℕ) → List ℕ
 names n ls = kept (λ s. eqb (name ls s) s) (range_with_len 0 n)
 
+-- the slots below n whose name is the number that is looked for
+module _ (n : ℕ) (ls : List (ℕ × ℕ)) (wanted : ℕ → ℕ) where
+  abbrev named : ℕ → Bool
+  named s = eqb (name ls s) (wanted s)
+
+  in_named : (s : ℕ) → s < n → name ls s ≡ wanted s → In s (kept named (range_with_len 0 n))
+  in_named s h e = in_kept named s (range_with_len 0 n) (eq-eqb (name ls s) (wanted s) e) (in_counting 0 n s (omega arith) (omega arith))
+
+  named_in : (s : ℕ) → In s (kept named (range_with_len 0 n)) → (s < n) × (name ls s ≡ wanted s)
+  named_in s i =
+      let q = kept_in named s (range_with_len 0 n) i in
+      let b = counting_in 0 n s q.1 in
+      (omega arith, eqb-true (name ls s) (wanted s) q.0)
+
+  once_named : Once (kept named (range_with_len 0 n))
+  once_named = once_kept named (range_with_len 0 n) (once_counting 0 n)
+
+own_named : (n : ℕ) (ls : List (ℕ × ℕ)) (s : ℕ) → s < n → In (name ls s) (names n ls)
+own_named n ls s h = in_named n ls (λ t. t) (name ls s) (omega (arith, name_le ls s)) (name_own ls s)
+
 pub parts_named : (n : ℕ) (ls : List (ℕ × ℕ)) → Parts n ls (length (names n ls))
 parts_named n ls = record {
   ones = names n ls;
   number = refl;
-  once = once_kept own (range_with_len 0 n) (once_counting 0 n);
-  within = λ s i. let r = counting_in 0 n s (kept_in own s (range_with_len 0 n) i).1 in omega arith;
-  apart = λ s t i j c. sym (named s i) ∙ chain_name c ∙ named t j;
-  covered = λ s h. (name ls s, in_kept own (name ls s) (range_with_len 0 n) (eq-eqb (name ls (name ls s)) (name ls s) (name_own ls s)) (in_counting 0 n (name ls s) (omega arith) (omega (arith, name_le ls s))), name_chain ls s);
+  once = once_named n ls (λ t. t);
+  within = λ s i. (named_in n ls (λ t. t) s i).0;
+  apart = λ s t i j c. sym (named_in n ls (λ u. u) s i).1 ∙ chain_name c ∙ (named_in n ls (λ u. u) t j).1;
+  covered = λ s h. (name ls s, own_named n ls s h, name_chain ls s);
 }
-  where
-    own : ℕ → Bool
-    own s = eqb (name ls s) s
-
-    named : (s : ℕ) → In s (names n ls) → name ls s ≡ s
-    named s i = eqb-true (name ls s) s (kept_in own s (range_with_len 0 n) i).0
 
 -- the slots that have one name
 named_so : ℕ → List (ℕ × ℕ) → ℕ → List ℕ
@@ -50,40 +64,27 @@ components_stand L = (map f (names n ls), record { each = each; once = subst Onc
     f : ℕ → List ℕ
     f = named_so L.slots (links L.readings)
 
-    in_f : (r s : ℕ) → s < n → name ls s ≡ r → In s (f r)
-    in_f r s h e = in_kept (λ t. eqb (name ls t) r) s (range_with_len 0 n) (eq-eqb (name ls s) r e) (in_counting 0 n s (omega arith) (omega arith))
-
     f_in : (r s : ℕ) → In s (f r) → (s < n) × (name ls s ≡ r)
-    f_in r s i =
-        let q = kept_in (λ t. eqb (name ls t) r) s (range_with_len 0 n) i in
-        let b = counting_in 0 n s q.1 in
-        (omega arith, eqb-true (name ls s) r q.0)
-
-    own_name : (r : ℕ) → In r (names n ls) → (r < n) × (name ls r ≡ r)
-    own_name r i =
-        let q = kept_in (λ t. eqb (name ls t) t) r (range_with_len 0 n) i in
-        let b = counting_in 0 n r q.1 in
-        (omega arith, eqb-true (name ls r) r q.0)
+    f_in r = named_in n ls (λ _. r)
 
     component : (r : ℕ) → name ls r ≡ r → Component n ls r (f r)
     component r e = record {
-      once = once_kept (λ t. eqb (name ls t) r) (range_with_len 0 n) (once_counting 0 n);
-      exactly = λ t. ((λ i. ((f_in r t i).0, same_name_chain ls r t (e ∙ sym (f_in r t i).1))), λ q. in_f r t q.0 (sym (chain_name q.1) ∙ e));
+      once = once_named n ls (λ _. r);
+      exactly = λ t. ((λ i. ((f_in r t i).0, same_name_chain ls r t (e ∙ sym (f_in r t i).1))), λ q. in_named n ls (λ _. r) t q.0 (sym (chain_name q.1) ∙ e));
     }
 
     each : (c : List ℕ) → In c (map f (names n ls)) → (s : ℕ) × In s c × Component n ls s c
     each c i =
         let m = map_in f c (names n ls) i in
-        let o = own_name m.0 m.1 in
-        (m.0, subst (In m.0) (sym m.2) (in_f m.0 m.0 o.0 o.1), subst (Component n ls m.0) (sym m.2) (component m.0 o.1))
+        let o = named_in n ls (λ t. t) m.0 m.1 in
+        (m.0, subst (In m.0) (sym m.2) (in_named n ls (λ _. m.0) m.0 o.0 o.1), subst (Component n ls m.0) (sym m.2) (component m.0 o.1))
 
     once : Once (flat_map f (names n ls))
     once =
-        once_joined f (λ r. once_kept (λ t. eqb (name ls t) r) (range_with_len 0 n) (once_counting 0 n)) (λ r q s i j. sym (f_in r s i).1 ∙ (f_in q s j).1) (names n ls) (once_kept (λ s. eqb (name ls s) s) (range_with_len 0 n) (once_counting 0 n))
+        once_joined f (λ r. once_named n ls (λ _. r)) (λ r q s i j. sym (f_in r s i).1 ∙ (f_in q s j).1) (names n ls) (once_named n ls (λ t. t))
 
     all : (s : ℕ) → s < n → In s (flat_map f (names n ls))
-    all s h =
-        in_joined f (name ls s) s (names n ls) (in_kept (λ t. eqb (name ls t) t) (name ls s) (range_with_len 0 n) (eq-eqb (name ls (name ls s)) (name ls s) (name_own ls s)) (in_counting 0 n (name ls s) (omega arith) (omega (arith, name_le ls s)))) (in_f (name ls s) s h refl)
+    all s h = in_joined f (name ls s) s (names n ls) (own_named n ls s h) (in_named n ls (λ _. name ls s) s h refl)
 
 pub parts_le : (n : ℕ) (ls : List (ℕ × ℕ)) (c d : ℕ) → Parts n ls c → Parts n ls d → c ≤ d
 parts_le n ls c d p q =

@@ -1,6 +1,6 @@
 -- Silencing persons adds exactly the excess.
 -- Assumes nothing.
-use Rattle.std.proofs.Common.{◌≡◌, ℕ, Bool, true, false, cond, not, ◌&&◌, ◌||◌, List, [], ◌∷◌, map, sym, refl, ap, ◌∙◌}
+use Rattle.std.proofs.Common.{◌≡◌, ℕ, Bool, true, false, cond, not, ◌&&◌, ◌||◌, List, [], ◌∷◌, map, sym, refl, ap, ap₂, ◌∙◌}
 use Rattle.algebra.specs.Semiring.{Ops, Laws}
 use Rattle.figures.specs.Lists.{every, some_passes}
 use Rattle.figures.specs.Assignments.{assignments}
@@ -37,16 +37,13 @@ module _ {V : Type 0} (o : Ops V) (l : Laws o) where
       fold_kept l.sums (fits_all (map (silence S) rs)) (product o w) all
       ∙ fold_cong o.zero o.sum all _ _ term
       ∙ fold_both l.sums all (λ ρ. cond (fits_all rs ρ) (product o w ρ) o.zero) (λ ρ. cond (fits_others S rs ρ) (product o w ρ) o.zero)
-      ∙ ap₂_sum (sym (fold_kept l.sums (fits_all rs) (product o w) all)) (sym (fold_kept l.sums (fits_others S rs) (product o w) all))
+      ∙ ap₂ o.sum (sym (fold_kept l.sums (fits_all rs) (product o w) all)) (sym (fold_kept l.sums (fits_others S rs) (product o w) all))
     where
       rs : List Reading
       rs = L.readings
 
       all : List (List ℕ)
       all = assignments L.slots L.alleles
-
-      ap₂_sum : {a b c d : V} → a ≡ b → c ≡ d → o.sum a c ≡ o.sum b d
-      ap₂_sum p q = λ i. o.sum (p i) (q i)
 
       term : (ρ : List ℕ) → cond (fits_all (map (silence S) rs) ρ) (product o w ρ) o.zero ≡ o.sum (cond (fits_all rs ρ) (product o w ρ) o.zero) (cond (fits_others S rs ρ) (product o w ρ) o.zero)
       term ρ =

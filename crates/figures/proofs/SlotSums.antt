@@ -1,9 +1,10 @@
 -- Sums over the alleles of some slots, one slot after the other: in which order does not matter, and what depends on other slots comes out.
 -- Assumes nothing.
-use Rattle.std.proofs.Common.{◌≡◌, ℕ, Bool, true, false, cond, eqb, ◌⊎◌, List, [], ◌∷◌, ◌++◌, sym, refl, ap, ◌∙◌, ap₂, inl, inr}
+use Rattle.std.proofs.Common.{◌≡◌, ℕ, cond, eqb, ◌⊎◌, List, [], ◌∷◌, ◌++◌, sym, refl, ap, ◌∙◌, ap₂, inl, inr, arith}
 use mathlib.Core.Path.{fun_ext}
 use Rattle.std.specs.List.{range_with_len, flat_map}
-use Rattle.std.proofs.lemmas.Bool.{cases_eq, eq-eqb, ne_eqb, eqb-true, cond-true, cond-false}
+use Rattle.std.proofs.lemmas.Bool.{cases_eq, eq-eqb, ne_eqb, cond-true, cond-false}
+use Rattle.std.proofs.lemmas.Bool.Decides.{nat_tests}
 use Rattle.algebra.specs.Semiring.{Ops, Laws}
 use Rattle.figures.specs.Lists.{fold, In}
 use Rattle.figures.proofs.Folds.{fold_cong, fold_cong_in, fold_swap}
@@ -21,20 +22,10 @@ pub update_other : (ρ : ℕ → ℕ) (s a t : ℕ) → (t ≡ s → ⊥) → up
 update_other ρ s a t ne = cond-false (eqb t s) a (ρ t) (ne_eqb t s ne)
 
 pub update_twice : (ρ : ℕ → ℕ) (s a b : ℕ) → update (update ρ s a) s b ≡ update ρ s b
-update_twice ρ s a b = fun_ext (λ t. go t (eqb t s))
-  where
-    go : (t : ℕ) (x : Bool) → cond x b (cond x a (ρ t)) ≡ cond x b (ρ t)
-    go t true = refl
-    go t false = refl
+update_twice ρ s a b = fun_ext (λ t. grind (arith, nat_tests))
 
 pub update_comm : (ρ : ℕ → ℕ) (s t a b : ℕ) → (s ≡ t → ⊥) → update (update ρ s a) t b ≡ update (update ρ t b) s a
-update_comm ρ s t a b ne = fun_ext (λ u. go u (eqb u s) refl (eqb u t) refl)
-  where
-    go : (u : ℕ) (x : Bool) → eqb u s ≡ x → (y : Bool) → eqb u t ≡ y → cond y b (cond x a (ρ u)) ≡ cond x a (cond y b (ρ u))
-    go u true e true f = absurd (ne (sym (eqb-true u s e) ∙ eqb-true u t f))
-    go u true e false f = refl
-    go u false e true f = refl
-    go u false e false f = refl
+update_comm ρ s t a b ne = fun_ext (λ u. grind (arith, nat_tests))
 
 module _ {V : Type 0} (o : Ops V) (k : ℕ) where
   -- the sum over all alleles below k of the slots listed, the others as ρ has them

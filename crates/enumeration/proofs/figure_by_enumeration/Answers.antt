@@ -1,17 +1,19 @@
-use Rattle.std.proofs.Common.{◌≡◌, ◌-◌, length, take, sym, ap, ◌∙◌, subst, arith}
+use Rattle.std.proofs.Common.{length, take, ap, ◌∙◌, arith}
 use Rattle.pedigree.specs.Building.{persons_of}
-use Rattle.pedigree.specs.Slots.{SlotsBelow}
-use Rattle.enumeration.proofs.Steps.{front_held, answered}
+use Rattle.figures.specs.Figure.{weights}
+use Rattle.figures.specs.View.{readings_of}
+use Rattle.enumeration.proofs.Steps.{sum_behind, front_held, answered}
 use Rattle.enumeration.proofs.figure_by_enumeration.Goals as goal
-
-pub sum_from-requires : goal.sum_from-requires
-sum_from-requires g c =
-    let n : c.count.result - 0 ≡ length (persons_of c.args.family.now) = omega (arith, c.count.ensures) in
-    (omega arith, (omega arith, (omega arith, subst (λ m. SlotsBelow c.slot_count-slots.result (take m c.all_slots-held.result)) (sym n) (subst (λ m. SlotsBelow m (take (length (persons_of c.args.family.now)) c.all_slots-held.result)) (sym c.slot_count-slots.ensures) c.all_slots-held.ensures.bound))))
 
 pub returns : goal.returns
 returns g c =
-    let n : c.count.result - 0 ≡ length (persons_of c.args.family.now) = omega (arith, c.count.ensures) in
-    answered g.V.Algebra.operations g.met.V.Algebra.laws (persons_of c.args.family.now) c.args.bits.now (g.M.Model.classes c.args.model.now c.args.locus) (g.M.Model.fitting c.args.model.now c.args.locus) c.args.costs.now c.slot_count-slots.result _ _ c.slot_count-slots.ensures (omega arith) (omega arith)
-    (ap (λ m. take m c.all_slots-held.result) n ∙ front_held c.args.family.now c.args.bits.now c.all_slots-held.result _ c.all_slots-held.ensures.value)
-    c.sum_from.ensures
+    let o = g.V.Algebra.operations in
+    let persons = persons_of c.args.family.now in
+    let class = g.M.Model.classes c.args.model.now c.args.locus in
+    let fit = g.M.Model.fitting c.args.model.now c.args.locus in
+    let costs = c.args.costs.now in
+    let slots = c.slot_count-slots.result in
+    let held = take c.count.result c.all_slots-held.result in
+    answered o g.met.V.Algebra.laws persons c.args.bits.now class fit costs slots held c.sum_from.result c.slot_count-slots.ensures (omega arith) (omega arith)
+    (ap (λ m. take m c.all_slots-held.result) c.count.ensures ∙ front_held c.args.family.now c.args.bits.now c.all_slots-held.result _ c.all_slots-held.ensures.value)
+    (c.sum_from.ensures.value ∙ ap (sum_behind o (weights o costs) (readings_of held class fit) (length costs) slots) c.new-alleles.ensures)

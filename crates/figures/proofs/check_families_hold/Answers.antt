@@ -1,6 +1,5 @@
-use Rattle.std.proofs.Common.{refl}
 use Rattle.figures.proofs.Checked.{rows_hold}
 use Rattle.figures.proofs.check_families_hold.Goals as goal
 
-pub returns : goal.returns
-returns c = record { holds = rows_hold; value = refl }
+pub returns-clause-holds : goal.returns-clause-holds
+returns-clause-holds c = rows_hold

@@ -1,7 +1,9 @@
-use Rattle.std.proofs.Common.{refl}
 use Rattle.figures.proofs.Factored.{figures_factored}
 use Rattle.figures.proofs.Settled.{components_stand}
 use Rattle.figures.proofs.figures_are_factored.Goals as goal
 
-pub returns : goal.returns
-returns g c = record { holds = figures_factored g.V.Algebra.operations g.met.V.Algebra.laws; components = components_stand; value = refl }
+pub returns-clause-holds : goal.returns-clause-holds
+returns-clause-holds g c = figures_factored g.V.Algebra.operations g.met.V.Algebra.laws
+
+pub returns-clause-components : goal.returns-clause-components
+returns-clause-components g c = components_stand
