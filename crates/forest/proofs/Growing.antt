@@ -108,8 +108,3 @@ memory_start parent n start own =
 -- how many persons are laid
 pub persons_laid : (f : Forest) → length (laid f) ≡ f.count
 persons_laid f = let k = f.kept in length-take-le f.count f.entries (omega arith)
-
--- one entry more behind those laid
-pub laid_more : (f : Forest) (n : ℕ) (d e : Option (ℕ × ℕ)) → f.count < 64 → n ≡ f.count + 1 → d ≡ e → take n (set f.entries f.count d) ≡ laid f ++ e ∷ []
-laid_more f n d e room more same =
-    entries_more f.entries f.hung f.count n d None f.kept room more ∙ ap (λ x. laid f ++ x ∷ []) same

@@ -1,8 +1,8 @@
 // Laying persons, and taking them back.
-ghost use Rattle.std.specs.Prelude.{◌≡◌, ◌-◌, ◌<◌, ◌&&◌, [], length, take, Some, None};
-ghost use Rattle.forest.specs.Entries.{in_range};
-ghost use Rattle.forest.specs.Laid.{laid, has_room, Lays};
+ghost use Rattle.std.specs.Prelude.{◌≡◌, ◌-◌, ◌<◌, [], ◌∷◌, ◌++◌, length, take, Some, None, MatchResult};
+ghost use Rattle.forest.specs.Laid.{laid, lay_answer, pass_answer};
 
+use crate::faults::LayFault;
 use crate::trees::{Forest, PERSONS, SLOTS};
 
 impl Forest {
@@ -22,15 +22,17 @@ impl Forest {
         }
     }
 
-    // Lays one more person, who links two slots, told maternal first, and answers whether it did. A 65th person and a slot above 63 are refused, and
-    // change nothing.
-    pub fn lay(&mut self, slots: (usize, usize)) -> bool
-        ensures answer { result ≡ (has_room (laid self.old) && in_range slots) }
-        ensures after { Lays result (Some slots) self.old self.new }
+    // Lays one more person, who links two slots, told maternal first. A 65th person is refused, and then a slot above 63; a refusal changes nothing.
+    pub fn lay(&mut self, slots: (usize, usize)) -> Result<(), LayFault>
+        ensures answer { result ≡ lay_answer (laid self.old) slots }
+        ensures after { MatchResult result (λ _. laid self.new ≡ laid self.old ++ Some slots ∷ []) (λ _. self.new ≡ self.old) }
     {
         let person = self.count;
-        if person >= PERSONS || slots.0 >= SLOTS || slots.1 >= SLOTS {
-            return false;
+        if person >= PERSONS {
+            return Err(LayFault::TooManyPersons);
+        }
+        if slots.0 >= SLOTS || slots.1 >= SLOTS {
+            return Err(LayFault::SlotLacking);
         }
         let maternal = self.root(slots.0);
         let paternal = self.root(slots.1);
@@ -40,21 +42,21 @@ impl Forest {
         self.hung[person] = Some(high);
         self.parent[high] = low;
         self.count = person + 1;
-        true
+        Ok(())
     }
 
-    // Lays one more person, who links nothing, and answers whether it did. A 65th person is refused, and changes nothing.
-    pub fn pass(&mut self) -> bool
-        ensures answer { result ≡ has_room (laid self.old) }
-        ensures after { Lays result None self.old self.new }
+    // Lays one more person, who links nothing. A 65th person is refused, and changes nothing.
+    pub fn pass(&mut self) -> Result<(), LayFault>
+        ensures answer { result ≡ pass_answer (laid self.old) }
+        ensures after { MatchResult result (λ _. laid self.new ≡ laid self.old ++ None ∷ []) (λ _. self.new ≡ self.old) }
     {
         if self.count >= PERSONS {
-            return false;
+            return Err(LayFault::TooManyPersons);
         }
         self.entries[self.count] = None;
         self.hung[self.count] = None;
         self.count += 1;
-        true
+        Ok(())
     }
 
     // Takes the last person back: the root that it hung is a root again.
