@@ -14,9 +14,9 @@ const SLOTS: usize = 64;
 // is its own parent. Each person laid has its entry, and the root that its link hung under another.
 #[derive(Clone, Copy)]
 pub struct Forest {
-    parent: [usize; 64],
-    entries: [Option<(usize, usize)>; 64],
-    hung: [Option<usize>; 64],
+    parent: [usize; SLOTS],
+    entries: [Option<(usize, usize)>; PERSONS],
+    hung: [Option<usize>; PERSONS],
     count: usize,
     ghost kept: { Kept entries hung count },
     ghost grown: { Grown parent entries count },

@@ -29,11 +29,7 @@ impl Forest {
     fn parent_of(&self, slot: usize) -> usize
         ensures { result ≡ slice_index_or self.now.parent slot slot }
     {
-        if slot < SLOTS {
-            self.parent[slot]
-        } else {
-            slot
-        }
+        self.parent.get(slot).copied().unwrap_or(slot)
     }
 
     // The lowest slot of the component of a slot. A slot past the last is alone.
@@ -42,13 +38,11 @@ impl Forest {
         ensures lowest { (t : ℕ) → Chain (links_of self.now) slot t → result ≤ t }
         ensures same { Tells (links_of self.now) slot result }
     {
-        let mut at = slot;
-        let mut up = self.parent_of(slot);
-        while up != at {
-            at = up;
-            up = self.parent_of(at);
+        let mut root = slot;
+        while self.parent_of(root) != root {
+            root = self.parent_of(root);
         }
-        at
+        root
     }
 
     // Into how many components the slots below a number fall. Slots past the last are alone.
@@ -56,12 +50,11 @@ impl Forest {
         ensures { Parts slots (links_of self.now) result }
     {
         let near = slots.min(SLOTS);
-        let mut parts = slots - near;
-        for slot in 0..near {
-            if self.parent[slot] == slot {
-                parts += 1;
-            }
-        }
-        parts
+        let roots = self.parent[..near]
+            .iter()
+            .enumerate()
+            .filter(|(slot, parent)| slot == *parent)
+            .count();
+        slots - near + roots
     }
 }

@@ -4,20 +4,17 @@ ghost use Rattle.forest.specs.Laid.{laid, lay_answer, pass_answer};
 
 use crate::faults::LayFault;
 use crate::trees::{Forest, PERSONS, SLOTS};
+use std::array;
 
 impl Forest {
     // Nobody is laid, and every slot is alone.
     pub fn new() -> Forest
         ensures { laid result ≡ [] }
     {
-        let mut parent = [0; 64];
-        for slot in 0..SLOTS {
-            parent[slot] = slot;
-        }
         Forest {
-            parent,
-            entries: [None; 64],
-            hung: [None; 64],
+            parent: array::from_fn(|slot| slot),
+            entries: [None; PERSONS],
+            hung: [None; PERSONS],
             count: 0,
         }
     }
