@@ -1,14 +1,15 @@
 -- The entries that a forest holds, and what laying one more person answers.
 -- Assumes nothing.
-use Rattle.std.specs.Prelude.{ℕ, Bool, List, length, take, Ok, Err, Result, Option, if◌then◌else◌, nat_lt}
+use Rattle.std.specs.Prelude.{ℕ, Bool, List, length, Ok, Err, Result, Option, if◌then◌else◌, nat_lt}
 use Rattle.forest.specs.declared.faults.LayFault.{LayFault}
 use Rattle.forest.specs.declared.faults.LayFault.TheVariants.{TooManyPersons, SlotLacking}
 use Rattle.forest.specs.declared.trees.Forest.{Forest}
 use Rattle.forest.specs.Entries.{links_laid, in_range}
+use Rattle.forest.specs.Hanging.{first_entries}
 
 -- the entries of the persons laid, in their order
 abbrev pub laid : Forest → List (Option (ℕ × ℕ))
-laid f = take f.count f.entries
+laid f = first_entries f.count f.ties
 
 -- the links not taken back, in the order of the persons
 abbrev pub links_of : Forest → List (ℕ × ℕ)

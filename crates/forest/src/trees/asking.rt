@@ -1,28 +1,31 @@
 // What a forest tells: the persons laid and their links, the roots of slots, the number of components.
-ghost use Rattle.std.specs.Prelude.{◌≡◌, ℕ, ◌≤◌, length, None, slice_index_or};
+ghost use Rattle.std.specs.Prelude.{◌≡◌, ℕ, ◌≤◌, length, take, None, slice_index_or};
 ghost use Rattle.figures.specs.Graph.{Chain, Parts};
 ghost use Rattle.forest.specs.Entries.{Tells};
 ghost use Rattle.forest.specs.Laid.{laid, links_of};
 
-use crate::trees::{Forest, SLOTS};
+use crate::trees::{Forest, SLOTS, Tie};
 
 impl Forest {
+    // The ties of the persons laid, in their order.
+    fn laid(&self) -> &[Option<Tie>]
+        ensures { result.now ≡ take self.now.count self.now.ties }
+    {
+        &self.ties[..self.count]
+    }
+
     // How many persons are laid.
     pub fn persons(&self) -> usize
         ensures { result ≡ length (laid self.now) }
     {
-        self.count
+        self.laid().len()
     }
 
     // The link of a person; none where it laid none, and where it is not laid.
     pub fn link(&self, person: usize) -> Option<(usize, usize)>
         ensures { result ≡ slice_index_or (laid self.now) person None }
     {
-        if person < self.count {
-            self.entries[person]
-        } else {
-            None
-        }
+        self.laid().get(person)?.map(|tie| tie.slots)
     }
 
     // The parent of a slot. A slot past the last is its own.

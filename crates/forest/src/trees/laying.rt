@@ -3,7 +3,7 @@ ghost use Rattle.std.specs.Prelude.{◌≡◌, ◌-◌, ◌<◌, [], ◌∷◌, 
 ghost use Rattle.forest.specs.Laid.{laid, lay_answer, pass_answer};
 
 use crate::faults::LayFault;
-use crate::trees::{Forest, PERSONS, SLOTS};
+use crate::trees::{Forest, PERSONS, SLOTS, Tie};
 use std::array;
 
 impl Forest {
@@ -13,8 +13,7 @@ impl Forest {
     {
         Forest {
             parent: array::from_fn(|slot| slot),
-            entries: [None; PERSONS],
-            hung: [None; PERSONS],
+            ties: [None; PERSONS],
             count: 0,
         }
     }
@@ -35,9 +34,8 @@ impl Forest {
         let paternal = self.root(slots.1);
         let high = maternal.max(paternal);
         let low = maternal.min(paternal);
-        self.entries[person] = Some(slots);
-        self.hung[person] = Some(high);
         self.parent[high] = low;
+        self.ties[person] = Some(Tie { slots, hung: high });
         self.count = person + 1;
         Ok(())
     }
@@ -50,8 +48,7 @@ impl Forest {
         if self.count >= PERSONS {
             return Err(LayFault::TooManyPersons);
         }
-        self.entries[self.count] = None;
-        self.hung[self.count] = None;
+        self.ties[self.count] = None;
         self.count += 1;
         Ok(())
     }
@@ -62,9 +59,8 @@ impl Forest {
         ensures { laid self.new ≡ take (length (laid self.old) - 1) (laid self.old) }
     {
         let last = self.count - 1;
-        let undo = self.hung[last];
-        if let Some(root) = undo {
-            self.parent[root] = root;
+        if let Some(tie) = self.ties[last] {
+            self.parent[tie.hung] = tie.hung;
         }
         self.count = last;
     }
@@ -73,7 +69,7 @@ impl Forest {
     pub fn back_to(&mut self, person: usize)
         ensures { laid self.new ≡ take person (laid self.old) }
     {
-        while self.count > person {
+        for _ in person..self.persons() {
             self.take_back();
         }
     }

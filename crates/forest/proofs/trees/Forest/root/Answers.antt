@@ -13,13 +13,13 @@ module _ (f : Forest) (s up : ℕ) (is : up ≡ get_or f.parent s s) where
   grown = is ∙ ap (λ ps. get_or ps s s) f.grown
 
   below : up ≤ s
-  below = subst (λ n. n ≤ s) (sym grown) (parent_le (newest (laid f)) s f.kept.3)
+  below = subst (λ n. n ≤ s) (sym grown) (parent_le (newest (laid f)) s f.kept.range)
 
   same_name : name (newest (laid f)) up ≡ name (newest (laid f)) s
-  same_name = ap (name (newest (laid f))) grown ∙ parent_name (newest (laid f)) s f.kept.3
+  same_name = ap (name (newest (laid f))) grown ∙ parent_name (newest (laid f)) s f.kept.range
 
   own_name : up ≡ s → name (newest (laid f)) s ≡ s
-  own_name e = root_named (newest (laid f)) s f.kept.3 (sym grown ∙ e)
+  own_name e = root_named (newest (laid f)) s f.kept.range (sym grown ∙ e)
 
 pub loop-root-preserved : goal.loop-root-preserved
 loop-root-preserved c =
