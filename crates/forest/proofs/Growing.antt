@@ -1,16 +1,15 @@
 -- One person more: what the memory keeps with its tie written behind the others.
 -- Assumes nothing.
 use Rattle.std.proofs.Common.{◌≡◌, ℕ, ◌+◌, ◌<◌, ◌≤◌, min, max, true, ◌⊎◌, List, [], ◌∷◌, ◌++◌, map, reverse, length, get_or, take, set, replicate, Some, None, Option, sym, refl, ap, ◌∙◌, subst, ap₂, inl, inr, arith}
-use Rattle.std.specs.Option.{option_map}
 use Rattle.std.proofs.lemmas.List.{take_more_set, take-set-le, take-take, take-map, map_push, length-map, length-take-le, length-set, get_or-set_same, get_or-set_other, reverse-append}
 use Rattle.std.proofs.lemmas.List.Elements.{filter_map-append}
-use Rattle.std.proofs.lemmas.Bool.{cases_lt, and_from}
+use Rattle.std.proofs.lemmas.Bool.{cases_order, and_from}
 use Rattle.figures.specs.Lists.{every}
 use Rattle.figures.proofs.Names.{name}
 use Rattle.forest.specs.declared.trees.Forest.{Forest}
 use Rattle.forest.specs.declared.trees.Tie.{Tie}
 use Rattle.forest.specs.Entries.{links_laid, in_range}
-use Rattle.forest.specs.Hanging.{first_entries, newest, parents, hung_by, Kept, Grown, Undone}
+use Rattle.forest.specs.Hanging.{entry, first_entries, newest, parents, hung_by, Kept, Grown, Undone}
 use Rattle.forest.specs.Laid.{laid}
 
 newest_push : (es : List (Option (ℕ × ℕ))) (e : Option (ℕ × ℕ)) → newest (es ++ e ∷ []) ≡ newest (e ∷ []) ++ newest es
@@ -28,28 +27,32 @@ Memory parent ties count = record { kept : Kept ties count; grown : Grown parent
 
 -- the memory with the tie t of one person more
 module _ (f : Forest) (t : Option Tie) (room : f.count < 64) where
-  entries_more : first_entries (f.count + 1) (set f.ties f.count t) ≡ laid f ++ option_map (λ u. u.slots) t ∷ []
-  entries_more = let k = f.kept in ap (map (option_map (λ u. u.slots))) (take_more_set f.ties f.count t (omega arith)) ∙ map_push (option_map (λ u. u.slots)) (take f.count f.ties) t
+  entries_more : first_entries (f.count + 1) (set f.ties f.count t) ≡ laid f ++ entry t ∷ []
+  entries_more = let k = f.kept in ap (map entry) (take_more_set f.ties f.count t (omega arith)) ∙ map_push entry (take f.count f.ties) t
+
+  entries_same : (p : ℕ) → p ≤ f.count → first_entries p (set f.ties f.count t) ≡ first_entries p f.ties
+  entries_same p h = ap (map entry) (take-set-le p f.ties f.count t h)
 
   -- the links laid now, the last one first, are ls
-  memory_more : (parent : List ℕ) (ls : List (ℕ × ℕ)) → newest (laid f ++ option_map (λ u. u.slots) t ∷ []) ≡ ls → every in_range ls ≡ true → parent ≡ parents ls → ((u : Tie) → t ≡ Some u → u.hung ≡ hung_by (newest (laid f)) u.slots) → Memory parent (set f.ties f.count t) (f.count + 1)
+  memory_more : (parent : List ℕ) (ls : List (ℕ × ℕ)) → newest (laid f ++ entry t ∷ []) ≡ ls → every in_range ls ≡ true → parent ≡ parents ls → ((u : Tie) → t ≡ Some u → u.hung ≡ hung_by (newest (laid f)) u.slots) → Memory parent (set f.ties f.count t) (f.count + 1)
   memory_more parent ls links range grown here =
       let k = f.kept in
       let now : newest (first_entries (f.count + 1) (set f.ties f.count t)) ≡ ls = ap newest entries_more ∙ links in record {
         kept = record { long = length-set f.ties f.count t ∙ k.long; few = omega arith; range = ap (every in_range) now ∙ range };
         grown = grown ∙ ap parents (sym now);
-        undone = λ p u h e. go p u h e (cases_lt p f.count);
+        undone = λ p u h e. go p u e (cases_order p f.count) h;
       }
     where
-      go : (p : ℕ) (u : Tie) → p < f.count + 1 → get_or (set f.ties f.count t) p None ≡ Some u → (p < f.count) ⊎ (f.count ≤ p) → u.hung ≡ hung_by (newest (first_entries p (set f.ties f.count t))) u.slots
-      go p u h e (inl l) =
-          f.undone p u l (sym (get_or-set_other f.ties f.count p t None (omega arith)) ∙ e)
-          ∙ ap (λ ts. hung_by (newest (map (option_map (λ v. v.slots)) ts)) u.slots) (sym (take-set-le p f.ties f.count t (omega arith)))
-      go p u h e (inr g) =
+      go : (p : ℕ) (u : Tie) → get_or (set f.ties f.count t) p None ≡ Some u → (p ≡ f.count) ⊎ ((p < f.count) ⊎ (f.count < p)) → p < f.count + 1 → u.hung ≡ hung_by (newest (first_entries p (set f.ties f.count t))) u.slots
+      go p u e (inl last) h =
           let k = f.kept in
-          let last : p ≡ f.count = omega arith in
-          here u (sym (ap (λ q. get_or (set f.ties f.count t) q None) last ∙ get_or-set_same f.ties f.count t None (omega arith)) ∙ e)
-          ∙ ap (λ ts. hung_by (newest (map (option_map (λ v. v.slots)) ts)) u.slots) (sym (ap (λ q. take q (set f.ties f.count t)) last ∙ take-set-le f.count f.ties f.count t (omega arith)))
+          let read = ap (λ q. get_or (set f.ties f.count t) q None) last ∙ get_or-set_same f.ties f.count t None (omega arith) in
+          let same = ap (λ q. first_entries q (set f.ties f.count t)) last ∙ entries_same f.count (omega arith) in
+          here u (sym read ∙ e) ∙ ap (λ es. hung_by (newest es) u.slots) (sym same)
+      go p u e (inr (inl l)) h =
+          f.undone p u l (sym (get_or-set_other f.ties f.count p t None (omega arith)) ∙ e)
+          ∙ ap (λ es. hung_by (newest es) u.slots) (sym (entries_same p (omega arith)))
+      go p u e (inr (inr g)) h = absurd (omega arith)
 
 -- one person more who links nothing
 pub memory_none : (f : Forest) → f.count < 64 → Memory f.parent (set f.ties f.count None) (f.count + 1)
@@ -78,8 +81,8 @@ memory_start parent own = record {
 
 -- how many persons are laid
 pub persons_laid : (f : Forest) → length (laid f) ≡ f.count
-persons_laid f = let k = f.kept in length-map (take f.count f.ties) (option_map (λ t. t.slots)) ∙ length-take-le f.count f.ties (omega arith)
+persons_laid f = let k = f.kept in length-map (take f.count f.ties) entry ∙ length-take-le f.count f.ties (omega arith)
 
 -- the entries of the first persons are those laid first
 pub first_laid : (f : Forest) (n : ℕ) → n ≤ f.count → first_entries n f.ties ≡ take n (laid f)
-first_laid f n h = ap (map (option_map (λ t. t.slots))) (sym (take-take n f.count f.ties h)) ∙ sym (take-map (option_map (λ t. t.slots)) n (take f.count f.ties))
+first_laid f n h = ap (map entry) (sym (take-take n f.count f.ties h)) ∙ sym (take-map entry n (take f.count f.ties))

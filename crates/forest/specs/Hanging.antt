@@ -1,5 +1,5 @@
 -- What the memory of a forest keeps: the parents that the links laid give, and the root that each link hung.
--- Words: first_entries (the entries of the first persons laid), newest (the links laid, the last one first), parents (the parent of each slot),
+-- Words: entry (the slots of a tie), first_entries (those of the first persons), newest (the links laid, the last one first), parents (the parent of each slot),
 -- hung_by (the root that a link hangs).
 -- Assumes nothing.
 use Rattle.std.specs.Prelude.{◌≡◌, ℕ, ◌<◌, ◌≤◌, min, max, true, List, [], ◌∷◌, map, reverse, length, take, Some, None, Option, slice_index_or, slice_set}
@@ -10,9 +10,13 @@ use Rattle.figures.proofs.Names.{name}
 use Rattle.forest.specs.declared.trees.Tie.{Tie}
 use Rattle.forest.specs.Entries.{links_laid, in_range}
 
--- the entries of the first n persons, by their ties: the slots of each tie
+-- the entry of a person, by its tie: the slots that it links
+abbrev pub entry : Option Tie → Option (ℕ × ℕ)
+entry tie = option_map (λ t. t.slots) tie
+
+-- the entries of the first n persons
 abbrev pub first_entries : ℕ → List (Option Tie) → List (Option (ℕ × ℕ))
-first_entries n ties = map (option_map (λ t. t.slots)) (take n ties)
+first_entries n ties = map entry (take n ties)
 
 -- the links laid, the last one first
 abbrev pub newest : List (Option (ℕ × ℕ)) → List (ℕ × ℕ)

@@ -28,8 +28,8 @@ loop-root-preserved c =
 
 pub loop-root-smaller : goal.loop-root-smaller
 loop-root-smaller c =
-    let h = below c.args.self.now c.loop-root.root _ c.parent_of.ensures in
-    omega (arith, c.parent_of-root.ensures)
+    let h = below c.args.self.now c.loop-root.root _ c.parent_of-root.ensures in
+    omega (arith, c.parent_of.ensures)
 
 pub returns : goal.returns
 returns c =
