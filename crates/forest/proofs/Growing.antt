@@ -1,23 +1,19 @@
--- One person more: what the memory keeps with its entry written behind the others.
+-- One person more: what the memory keeps with its tie written behind the others.
 -- Assumes nothing.
-use Rattle.std.proofs.Common.{◌≡◌, ℕ, ◌+◌, ◌<◌, min, max, true, List, [], ◌∷◌, ◌++◌, reverse, length, get_or, take, set, replicate, Some, None, Option, sym, refl, ap, ◌∙◌, subst, ap₂, subst₂, inl, inr, arith}
-use Rattle.std.proofs.lemmas.List.{take_more_set, take-append-le, take_all, length-take-le, length-set, length_push, get_or_append_left, get_or_push, get_or_past, reverse-append}
+use Rattle.std.proofs.Common.{◌≡◌, ℕ, ◌+◌, ◌<◌, ◌≤◌, min, max, true, ◌⊎◌, List, [], ◌∷◌, ◌++◌, map, reverse, length, get_or, take, set, replicate, Some, None, Option, sym, refl, ap, ◌∙◌, subst, ap₂, inl, inr, arith}
+use Rattle.std.proofs.lemmas.List.{take_more_set, take-set-le, take-take, take-map, map_push, length-map, length-take-le, length-set, get_or-set_same, get_or-set_other, reverse-append}
+use Rattle.std.proofs.lemmas.List.Elements.{filter_map-append}
 use Rattle.std.proofs.lemmas.Bool.{cases_order, and_from}
 use Rattle.figures.specs.Lists.{every}
 use Rattle.figures.proofs.Names.{name}
 use Rattle.forest.specs.declared.trees.Forest.{Forest}
+use Rattle.forest.specs.declared.trees.Tie.{Tie}
 use Rattle.forest.specs.Entries.{links_laid, in_range}
-use Rattle.forest.specs.Hanging.{newest, parents, hung_by, Kept, Grown, Undone}
+use Rattle.forest.specs.Hanging.{entry, first_entries, newest, parents, hung_by, Kept, Grown, Undone}
 use Rattle.forest.specs.Laid.{laid}
 
-links_push : (es : List (Option (ℕ × ℕ))) (e : Option (ℕ × ℕ)) → links_laid (es ++ e ∷ []) ≡ links_laid es ++ links_laid (e ∷ [])
-links_push [] None = refl
-links_push [] (Some l) = refl
-links_push (None ∷ es) e = links_push es e
-links_push (Some m ∷ es) e = ap (λ ls. m ∷ ls) (links_push es e)
-
 newest_push : (es : List (Option (ℕ × ℕ))) (e : Option (ℕ × ℕ)) → newest (es ++ e ∷ []) ≡ newest (e ∷ []) ++ newest es
-newest_push es e = ap reverse (links_push es e) ∙ reverse-append (links_laid es) (links_laid (e ∷ []))
+newest_push es e = ap reverse (filter_map-append (λ d. d) es (e ∷ [])) ∙ reverse-append (links_laid es) (links_laid (e ∷ []))
 
 pub newest_none : (es : List (Option (ℕ × ℕ))) → newest (es ++ None ∷ []) ≡ newest es
 newest_none es = newest_push es None
@@ -25,91 +21,68 @@ newest_none es = newest_push es None
 pub newest_some : (es : List (Option (ℕ × ℕ))) (l : ℕ × ℕ) → newest (es ++ Some l ∷ []) ≡ l ∷ newest es
 newest_some es l = newest_push es (Some l)
 
--- the undo entries hs are those of the entries es
-abbrev pub Undoes : List (Option (ℕ × ℕ)) → List (Option ℕ) → Type 0
-Undoes es hs = (p : ℕ) → get_or hs p None ≡ hung_by (newest (take p es)) (get_or es p None)
-
-undoes_push : (es : List (Option (ℕ × ℕ))) (hs : List (Option ℕ)) (e : Option (ℕ × ℕ)) (h : Option ℕ) → length hs ≡ length es → h ≡ hung_by (newest es) e → Undoes es hs → Undoes (es ++ e ∷ []) (hs ++ h ∷ [])
-undoes_push es hs e h long here before p =
-    elim (cases_order p (length es)) [
-      | inl q ↦
-          get_or_push hs h None p (omega arith)
-          ∙ here
-          ∙ ap₂ (λ ms d. hung_by (newest ms) d) (sym (take-append-le p es (e ∷ []) (omega arith) ∙ take_all p es (omega arith))) (sym (get_or_push es e None p (sym q)))
-      | inr (inl l) ↦
-          get_or_append_left hs (h ∷ []) None p (omega arith)
-          ∙ before p
-          ∙ ap₂ (λ ms d. hung_by (newest ms) d) (sym (take-append-le p es (e ∷ []) (omega arith))) (sym (get_or_append_left es (e ∷ []) None p l))
-      | inr (inr g) ↦
-          get_or_past (hs ++ h ∷ []) p None (omega (arith, length_push hs h))
-          ∙ ap (hung_by (newest (take p (es ++ e ∷ [])))) (sym (get_or_past (es ++ e ∷ []) p None (omega (arith, length_push es e))))
-    ]
-
--- the memory with the entry e of one person more, who hung h
-module _ (entries : List (Option (ℕ × ℕ))) (hung : List (Option ℕ)) (count n : ℕ) (e : Option (ℕ × ℕ)) (h : Option ℕ) (kept : Kept entries hung count) (room : count < 64) (more : n ≡ count + 1) where
-  pub entries_more : take n (set entries count e) ≡ take count entries ++ e ∷ []
-  entries_more = ap (λ m. take m (set entries count e)) more ∙ take_more_set entries count e (omega arith)
-
-  hung_more : take n (set hung count h) ≡ take count hung ++ h ∷ []
-  hung_more = ap (λ m. take m (set hung count h)) more ∙ take_more_set hung count h (omega arith)
-
-  undone_more : h ≡ hung_by (newest (take count entries)) e → Undone entries hung count → Undone (set entries count e) (set hung count h) n
-  undone_more here before =
-      let long = length-take-le count hung (omega arith) ∙ sym (length-take-le count entries (omega arith)) in
-      subst₂ Undoes (sym entries_more) (sym hung_more) (undoes_push (take count entries) (take count hung) e h long here before)
-
-  kept_more : every in_range (newest (take count entries ++ e ∷ [])) ≡ true → Kept (set entries count e) (set hung count h) n
-  kept_more range = (
-    length-set entries count e ∙ kept.0,
-    length-set hung count h ∙ kept.1,
-    omega arith,
-    ap (λ es. every in_range (newest es)) entries_more ∙ range,
-  )
-
 -- what a memory keeps, all together
-abbrev pub Memory : List ℕ → List (Option (ℕ × ℕ)) → List (Option ℕ) → ℕ → Type 0
-Memory parent entries hung count = record { kept : Kept entries hung count; grown : Grown parent entries count; undone : Undone entries hung count }
+abbrev pub Memory : List ℕ → List (Option Tie) → ℕ → Type 0
+Memory parent ties count = record { kept : Kept ties count; grown : Grown parent ties count; undone : Undone ties count }
 
-module _ (f : Forest) (n : ℕ) (e : Option (ℕ × ℕ)) (h : Option ℕ) (room : f.count < 64) (more : n ≡ f.count + 1) where
-  before : List (ℕ × ℕ)
-  before = newest (laid f)
+-- the memory with the tie t of one person more
+module _ (f : Forest) (t : Option Tie) (room : f.count < 64) where
+  entries_more : first_entries (f.count + 1) (set f.ties f.count t) ≡ laid f ++ entry t ∷ []
+  entries_more = let k = f.kept in ap (map entry) (take_more_set f.ties f.count t (omega arith)) ∙ map_push entry (take f.count f.ties) t
 
-  -- one person more who links nothing
-  pub memory_none : e ≡ None → h ≡ None → Memory f.parent (set f.entries f.count e) (set f.hung f.count h) n
-  unfolding before
-  memory_none none nothing =
-      let same : newest (laid f ++ e ∷ []) ≡ before = ap (λ d. newest (laid f ++ d ∷ [])) none ∙ newest_none (laid f) in record {
-        kept = kept_more f.entries f.hung f.count n e h f.kept room more (ap (every in_range) same ∙ f.kept.3);
-        grown = f.grown ∙ ap parents (sym (ap newest (entries_more f.entries f.hung f.count n e h f.kept room more) ∙ same));
-        undone = undone_more f.entries f.hung f.count n e h f.kept room more (nothing ∙ ap (hung_by before) (sym none)) f.undone;
+  entries_same : (p : ℕ) → p ≤ f.count → first_entries p (set f.ties f.count t) ≡ first_entries p f.ties
+  entries_same p h = ap (map entry) (take-set-le p f.ties f.count t h)
+
+  -- the links laid now, the last one first, are ls
+  memory_more : (parent : List ℕ) (ls : List (ℕ × ℕ)) → newest (laid f ++ entry t ∷ []) ≡ ls → every in_range ls ≡ true → parent ≡ parents ls → ((u : Tie) → t ≡ Some u → u.hung ≡ hung_by (newest (laid f)) u.slots) → Memory parent (set f.ties f.count t) (f.count + 1)
+  memory_more parent ls links range grown here =
+      let k = f.kept in
+      let now : newest (first_entries (f.count + 1) (set f.ties f.count t)) ≡ ls = ap newest entries_more ∙ links in record {
+        kept = record { long = length-set f.ties f.count t ∙ k.long; few = omega arith; range = ap (every in_range) now ∙ range };
+        grown = grown ∙ ap parents (sym now);
+        undone = λ p u h e. go p u e (cases_order p f.count) h;
       }
+    where
+      go : (p : ℕ) (u : Tie) → get_or (set f.ties f.count t) p None ≡ Some u → (p ≡ f.count) ⊎ ((p < f.count) ⊎ (f.count < p)) → p < f.count + 1 → u.hung ≡ hung_by (newest (first_entries p (set f.ties f.count t))) u.slots
+      go p u e (inl last) h =
+          let k = f.kept in
+          let read = ap (λ q. get_or (set f.ties f.count t) q None) last ∙ get_or-set_same f.ties f.count t None (omega arith) in
+          let same = ap (λ q. first_entries q (set f.ties f.count t)) last ∙ entries_same f.count (omega arith) in
+          here u (sym read ∙ e) ∙ ap (λ es. hung_by (newest es) u.slots) (sym same)
+      go p u e (inr (inl l)) h =
+          f.undone p u l (sym (get_or-set_other f.ties f.count p t None (omega arith)) ∙ e)
+          ∙ ap (λ es. hung_by (newest es) u.slots) (sym (entries_same p (omega arith)))
+      go p u e (inr (inr g)) h = absurd (omega arith)
 
-  -- one person more who links two slots: the higher of their roots is hung under the lower
-  pub memory_some : (l : ℕ × ℕ) (x y high low : ℕ) → in_range l ≡ true → x ≡ name (newest (laid f)) l.0 → y ≡ name (newest (laid f)) l.1 → high ≡ max x y → low ≡ min x y → e ≡ Some l → h ≡ Some (max x y) → Memory (set f.parent high low) (set f.entries f.count e) (set f.hung f.count h) n
-  unfolding before parents
-  memory_some l x y high low range p q up down some root =
-      let first : newest (laid f ++ e ∷ []) ≡ l ∷ before = ap (λ d. newest (laid f ++ d ∷ [])) some ∙ newest_some (laid f) l in
-      let top : high ≡ max (name before l.0) (name before l.1) = up ∙ ap₂ max p q in
-      let bottom : low ≡ min (name before l.0) (name before l.1) = down ∙ ap₂ min p q in record {
-        kept = kept_more f.entries f.hung f.count n e h f.kept room more (ap (every in_range) first ∙ and_from (in_range l) (every in_range before) range f.kept.3);
-        grown =
-            ap₂ (set f.parent) top bottom
-            ∙ ap (λ ps. set ps (max (name before l.0) (name before l.1)) (min (name before l.0) (name before l.1))) f.grown
-            ∙ ap parents (sym (ap newest (entries_more f.entries f.hung f.count n e h f.kept room more) ∙ first));
-        undone = undone_more f.entries f.hung f.count n e h f.kept room more (root ∙ ap Some (ap₂ max p q) ∙ ap (hung_by before) (sym some)) f.undone;
-      }
+-- one person more who links nothing
+pub memory_none : (f : Forest) → f.count < 64 → Memory f.parent (set f.ties f.count None) (f.count + 1)
+memory_none f room =
+    memory_more f None room f.parent (newest (laid f)) (newest_none (laid f)) f.kept.range f.grown (λ u e. cc)
+
+-- one person more who links two slots: the higher of their roots is hung under the lower
+pub memory_some : (f : Forest) → f.count < 64 → (l : ℕ × ℕ) (x y high low : ℕ) → in_range l ≡ true → x ≡ name (newest (laid f)) l.0 → y ≡ name (newest (laid f)) l.1 → high ≡ max x y → low ≡ min x y → Memory (set f.parent high low) (set f.ties f.count (Some (record { slots = l; hung = high }))) (f.count + 1)
+unfolding parents
+memory_some f room l x y high low range p q up down =
+    let ls = newest (laid f) in
+    let top : high ≡ max (name ls l.0) (name ls l.1) = up ∙ ap₂ max p q in
+    let bottom : low ≡ min (name ls l.0) (name ls l.1) = down ∙ ap₂ min p q in
+    let tie : Tie = record { slots = l; hung = high } in
+    memory_more f (Some tie) room (set f.parent high low) (l ∷ ls) (newest_some (laid f) l) (and_from (in_range l) (every in_range ls) range f.kept.range)
+    (ap₂ (set f.parent) top bottom ∙ ap (λ ps. set ps (max (name ls l.0) (name ls l.1)) (min (name ls l.0) (name ls l.1))) f.grown)
+    (λ u e. let same : tie ≡ u = cc in subst (λ (v : Tie). v.hung ≡ hung_by ls v.slots) same top)
 
 -- nobody laid
-pub memory_start : (parent : List ℕ) (n : ℕ) → n ≡ 0 → parent ≡ parents [] → Memory parent (replicate 64 None) (replicate 64 None) n
-memory_start parent n start own =
-    subst (Memory parent (replicate 64 None) (replicate 64 None)) (sym start)
-    (record { kept = (refl, refl, omega arith, refl); grown = own; undone = λ _. refl })
+pub memory_start : (parent : List ℕ) → parent ≡ parents [] → Memory parent (replicate 64 None) 0
+memory_start parent own = record {
+  kept = record { long = refl; few = omega arith; range = refl };
+  grown = own;
+  undone = λ p t h e. absurd (omega arith);
+}
 
 -- how many persons are laid
 pub persons_laid : (f : Forest) → length (laid f) ≡ f.count
-persons_laid f = let k = f.kept in length-take-le f.count f.entries (omega arith)
+persons_laid f = let k = f.kept in length-map (take f.count f.ties) entry ∙ length-take-le f.count f.ties (omega arith)
 
--- one entry more behind those laid
-pub laid_more : (f : Forest) (n : ℕ) (d e : Option (ℕ × ℕ)) → f.count < 64 → n ≡ f.count + 1 → d ≡ e → take n (set f.entries f.count d) ≡ laid f ++ e ∷ []
-laid_more f n d e room more same =
-    entries_more f.entries f.hung f.count n d None f.kept room more ∙ ap (λ x. laid f ++ x ∷ []) same
+-- the entries of the first persons are those laid first
+pub first_laid : (f : Forest) (n : ℕ) → n ≤ f.count → first_entries n f.ties ≡ take n (laid f)
+first_laid f n h = ap (map entry) (sym (take-take n f.count f.ties h)) ∙ sym (take-map entry n (take f.count f.ties))

@@ -9,7 +9,7 @@ use Rattle.figures.specs.Lists.{every}
 use Rattle.figures.specs.Graph.{Chain, same, link, back, join}
 use Rattle.figures.proofs.Names.{name, name_le, name_chain, chain_name, name_own, more_links}
 use Rattle.forest.specs.Entries.{in_range}
-use Rattle.forest.specs.Hanging.{parents}
+use Rattle.forest.specs.Hanging.{parents, hung_by}
 
 pub length_parents : (ls : List (ℕ × ℕ)) → length (parents ls) ≡ 64
 unfolding parents
@@ -29,72 +29,59 @@ pub parents_first : (ps : List ℕ) (n : ℕ) → length ps ≡ 64 → 64 ≤ n 
 unfolding parents
 parents_first ps n long all own = fill_by_all (λ k. k) ps 64 0 long (λ k h. own k (omega arith)) ∙ map-id (range_with_len 0 64)
 
--- one slot hung under another: its parent is new, those of all others are as before
-hang_cases : (ps : List ℕ) (x y s : ℕ) → x < length ps → ((s ≡ x) × (get_or (set ps x y) s s ≡ y)) ⊎ ((s ≡ x → ⊥) × (get_or (set ps x y) s s ≡ get_or ps s s))
-hang_cases ps x y s h = go (cases_eq s x)
-  where
-    go : (s ≡ x) ⊎ (s ≡ x → ⊥) → ((s ≡ x) × (get_or (set ps x y) s s ≡ y)) ⊎ ((s ≡ x → ⊥) × (get_or (set ps x y) s s ≡ get_or ps s s))
-    go (inl e) = inl (e, ap (λ z. get_or (set ps x y) z s) e ∙ get_or-set_same ps x y s h)
-    go (inr n) = inr (n, get_or-set_other ps x s y s n)
-
 -- the newest link, over the links before it
 module _ (l : ℕ × ℕ) (ls : List (ℕ × ℕ)) where
-  abbrev pub high : ℕ
-  high = max (name ls l.0) (name ls l.1)
-
-  abbrev pub low : ℕ
+  abbrev low : ℕ
   low = min (name ls l.0) (name ls l.1)
 
   rest_in_range : every in_range (l ∷ ls) ≡ true → every in_range ls ≡ true
   rest_in_range range = (and_parts (in_range l) (every in_range ls) range).1
 
-  pub high_below : every in_range (l ∷ ls) ≡ true → high < 64
-  high_below range =
-      let here = (and_parts (in_range l) (every in_range ls) range).0 in
-      let first = ltb-true l.0 64 (and_parts (ltb l.0 64) (ltb l.1 64) here).0 in
-      let second = ltb-true l.1 64 (and_parts (ltb l.0 64) (ltb l.1 64) here).1 in
-      omega (arith, name_le ls l.0, name_le ls l.1)
+  pub hung_by_below : every in_range (l ∷ ls) ≡ true → hung_by ls l < 64
+  hung_by_below range =
+      let here = and_parts (ltb l.0 64) (ltb l.1 64) (and_parts (in_range l) (every in_range ls) range).0 in
+      omega (arith, ltb-true l.0 64 here.0, ltb-true l.1 64 here.1, name_le ls l.0, name_le ls l.1)
 
-  pub high_own : name ls high ≡ high
-  high_own = go (cases_lt (name ls l.0) (name ls l.1))
-    where
-      go : (name ls l.0 < name ls l.1) ⊎ (name ls l.1 ≤ name ls l.0) → name ls high ≡ high
-      go (inl h) = let e : high ≡ name ls l.1 = omega arith in ap (name ls) e ∙ name_own ls l.1 ∙ sym e
-      go (inr h) = let e : high ≡ name ls l.0 = omega arith in ap (name ls) e ∙ name_own ls l.0 ∙ sym e
+  hung_by_own : name ls (hung_by ls l) ≡ hung_by ls l
+  hung_by_own =
+      elim (cases_lt (name ls l.0) (name ls l.1)) [
+        | inl h ↦ let e : hung_by ls l ≡ name ls l.1 = omega arith in ap (name ls) e ∙ name_own ls l.1 ∙ sym e
+        | inr h ↦ let e : hung_by ls l ≡ name ls l.0 = omega arith in ap (name ls) e ∙ name_own ls l.0 ∙ sym e
+      ]
 
   -- it joins the higher of its two roots to the lower
-  high_low : Chain (l ∷ ls) high low
-  high_low = go (cases_lt (name ls l.0) (name ls l.1))
-    where
-      between : Chain (l ∷ ls) (name ls l.0) (name ls l.1)
-      between = join (back (more_links l (name_chain ls l.0))) (join (link (inl refl)) (more_links l (name_chain ls l.1)))
+  high_low : Chain (l ∷ ls) (hung_by ls l) low
+  high_low =
+      let between : Chain (l ∷ ls) (name ls l.0) (name ls l.1) = join (back (more_links l (name_chain ls l.0))) (join (link (inl refl)) (more_links l (name_chain ls l.1))) in
+      elim (cases_lt (name ls l.0) (name ls l.1)) [
+        | inl h ↦ subst₂ (Chain (l ∷ ls)) (omega arith) (omega arith) (back between)
+        | inr h ↦ subst₂ (Chain (l ∷ ls)) (omega arith) (omega arith) between
+      ]
 
-      go : (name ls l.0 < name ls l.1) ⊎ (name ls l.1 ≤ name ls l.0) → Chain (l ∷ ls) high low
-      go (inl h) = subst₂ (Chain (l ∷ ls)) (omega arith) (omega arith) (back between)
-      go (inr h) = subst₂ (Chain (l ∷ ls)) (omega arith) (omega arith) between
-
-  -- the parents with it, by cases
-  parents_cases : (s : ℕ) → every in_range (l ∷ ls) ≡ true → ((s ≡ high) × (get_or (parents (l ∷ ls)) s s ≡ low)) ⊎ ((s ≡ high → ⊥) × (get_or (parents (l ∷ ls)) s s ≡ get_or (parents ls) s s))
+  -- its higher root has a new parent, the parents of all other slots are as before
+  parents_cases : (s : ℕ) → every in_range (l ∷ ls) ≡ true → ((s ≡ hung_by ls l) × (get_or (parents (l ∷ ls)) s s ≡ low)) ⊎ ((s ≡ hung_by ls l → ⊥) × (get_or (parents (l ∷ ls)) s s ≡ get_or (parents ls) s s))
   unfolding parents
-  parents_cases s range = hang_cases (parents ls) high low s (omega (arith, high_below range, length_parents ls))
+  parents_cases s range =
+      elim (cases_eq s (hung_by ls l)) [
+        | inl e ↦ inl (e, ap (λ z. get_or (set (parents ls) (hung_by ls l) low) z s) e ∙ get_or-set_same (parents ls) (hung_by ls l) low s (omega (arith, hung_by_below range, length_parents ls)))
+        | inr n ↦ inr (n, get_or-set_other (parents ls) (hung_by ls l) s low s n)
+      ]
 
 -- a parent is not above its slot
 pub parent_le : (ls : List (ℕ × ℕ)) (s : ℕ) → every in_range ls ≡ true → get_or (parents ls) s s ≤ s
 parent_le [] s range = omega (arith, first_parent s)
-parent_le (l ∷ ls) s range = go (parents_cases l ls s range) (parent_le ls s (rest_in_range l ls range))
-  where
-    go : ((s ≡ high l ls) × (get_or (parents (l ∷ ls)) s s ≡ low l ls)) ⊎ ((s ≡ high l ls → ⊥) × (get_or (parents (l ∷ ls)) s s ≡ get_or (parents ls) s s)) → get_or (parents ls) s s ≤ s → get_or (parents (l ∷ ls)) s s ≤ s
-    go (inl p) h = omega arith
-    go (inr p) h = omega arith
+parent_le (l ∷ ls) s range =
+    let h = parent_le ls s (rest_in_range l ls range) in
+    elim (parents_cases l ls s range) [ inl p ↦ omega arith | inr p ↦ omega arith ]
 
 -- a chain joins each slot to its parent
 parent_chain : (ls : List (ℕ × ℕ)) (s : ℕ) → every in_range ls ≡ true → Chain ls s (get_or (parents ls) s s)
 parent_chain [] s range = subst (Chain [] s) (sym (first_parent s)) same
-parent_chain (l ∷ ls) s range = go (parents_cases l ls s range) (parent_chain ls s (rest_in_range l ls range))
-  where
-    go : ((s ≡ high l ls) × (get_or (parents (l ∷ ls)) s s ≡ low l ls)) ⊎ ((s ≡ high l ls → ⊥) × (get_or (parents (l ∷ ls)) s s ≡ get_or (parents ls) s s)) → Chain ls s (get_or (parents ls) s s) → Chain (l ∷ ls) s (get_or (parents (l ∷ ls)) s s)
-    go (inl p) c = subst₂ (Chain (l ∷ ls)) (sym p.0) (sym p.1) (high_low l ls)
-    go (inr p) c = subst (Chain (l ∷ ls) s) (sym p.1) (more_links l c)
+parent_chain (l ∷ ls) s range =
+    elim (parents_cases l ls s range) [
+      | inl p ↦ subst₂ (Chain (l ∷ ls)) (sym p.0) (sym p.1) (high_low l ls)
+      | inr p ↦ subst (Chain (l ∷ ls) s) (sym p.1) (more_links l (parent_chain ls s (rest_in_range l ls range)))
+    ]
 
 -- going to the parent keeps the name
 pub parent_name : (ls : List (ℕ × ℕ)) (s : ℕ) → every in_range ls ≡ true → name ls (get_or (parents ls) s s) ≡ name ls s
@@ -103,16 +90,16 @@ parent_name ls s range = sym (chain_name (parent_chain ls s range))
 -- a slot that is its own parent is its own name
 pub root_named : (ls : List (ℕ × ℕ)) (s : ℕ) → every in_range ls ≡ true → get_or (parents ls) s s ≡ s → name ls s ≡ s
 root_named [] s range e = refl
-root_named (l ∷ ls) s range e = go (parents_cases l ls s range) (root_named ls s (rest_in_range l ls range))
-  where
-    go : ((s ≡ high l ls) × (get_or (parents (l ∷ ls)) s s ≡ low l ls)) ⊎ ((s ≡ high l ls → ⊥) × (get_or (parents (l ∷ ls)) s s ≡ get_or (parents ls) s s)) → (get_or (parents ls) s s ≡ s → name ls s ≡ s) → name (l ∷ ls) s ≡ s
-    go (inl p) f =
-        let own : name ls s ≡ s = ap (name ls) p.0 ∙ high_own l ls ∙ sym p.0 in
-        let other : low l ls ≡ s = omega (arith, p.1) in
-        elim (cases_cond (eqb (name ls s) (high l ls)) (low l ls) (name ls s) (name (l ∷ ls) s) refl) [ inl q ↦ q ∙ other | inr q ↦ q ∙ own ]
-    go (inr p) f =
-        let own = f (sym p.1 ∙ e) in
-        cond-false (eqb (name ls s) (high l ls)) (low l ls) (name ls s) (ne_eqb (name ls s) (high l ls) (λ q. p.0 (sym own ∙ q))) ∙ own
+root_named (l ∷ ls) s range e =
+    elim (parents_cases l ls s range) [
+      | inl p ↦
+          let own : name ls s ≡ s = ap (name ls) p.0 ∙ hung_by_own l ls ∙ sym p.0 in
+          let other : low l ls ≡ s = omega (arith, p.1) in
+          elim (cases_cond (eqb (name ls s) (hung_by ls l)) (low l ls) (name ls s) (name (l ∷ ls) s) refl) [ inl q ↦ q ∙ other | inr q ↦ q ∙ own ]
+      | inr p ↦
+          let own = root_named ls s (rest_in_range l ls range) (sym p.1 ∙ e) in
+          cond-false (eqb (name ls s) (hung_by ls l)) (low l ls) (name ls s) (ne_eqb (name ls s) (hung_by ls l) (λ q. p.0 (sym own ∙ q))) ∙ own
+    ]
 
 -- a slot that is its own name is its own parent
 pub named_root : (ls : List (ℕ × ℕ)) (s : ℕ) → every in_range ls ≡ true → name ls s ≡ s → get_or (parents ls) s s ≡ s
@@ -120,9 +107,9 @@ named_root ls s range e =
     omega (arith, parent_le ls s range, parent_name ls s range, name_le ls (get_or (parents ls) s s))
 
 -- the root that a link hung, made its own parent again, leaves the parents of the links before
-pub parents_back : (l : ℕ × ℕ) (ls : List (ℕ × ℕ)) → every in_range ls ≡ true → set (parents (l ∷ ls)) (high l ls) (high l ls) ≡ parents ls
+pub parents_back : (l : ℕ × ℕ) (ls : List (ℕ × ℕ)) → every in_range ls ≡ true → set (parents (l ∷ ls)) (hung_by ls l) (hung_by ls l) ≡ parents ls
 unfolding parents
 parents_back l ls range =
-    set-set (parents ls) (high l ls) (low l ls) (high l ls)
-    ∙ ap (set (parents ls) (high l ls)) (sym (named_root ls (high l ls) range (high_own l ls)))
-    ∙ set-get_or (parents ls) (high l ls) (high l ls)
+    set-set (parents ls) (hung_by ls l) (low l ls) (hung_by ls l)
+    ∙ ap (set (parents ls) (hung_by ls l)) (sym (named_root ls (hung_by ls l) range (hung_by_own l ls)))
+    ∙ set-get_or (parents ls) (hung_by ls l) (hung_by ls l)

@@ -1,14 +1,13 @@
 -- The entries of the persons laid, one a person in the order of the persons, and the roots of slots under their links.
 -- Words: links_laid (the links among the entries), Root (the lowest slot that a chain joins to a slot).
 -- Assumes nothing.
-use Rattle.std.specs.Prelude.{◌≡◌, ℕ, ◌≤◌, Bool, ◌&&◌, ◌↔◌, List, [], ◌∷◌, Some, None, Option, nat_lt}
+use Rattle.std.specs.Prelude.{◌≡◌, ℕ, ◌≤◌, Bool, ◌&&◌, ◌↔◌, List, Option, nat_lt}
+use Rattle.std.specs.List.{filter_map}
 use Rattle.figures.specs.Graph.{Chain}
 
 -- the links of the persons laid, in their order; a person whose entry is none links nothing
 abbrev pub links_laid : List (Option (ℕ × ℕ)) → List (ℕ × ℕ)
-links_laid [] = []
-links_laid (None ∷ es) = links_laid es
-links_laid (Some l ∷ es) = l ∷ links_laid es
+links_laid es = filter_map (λ e. e) es
 
 -- both slots of a link are among the 64
 abbrev pub in_range : ℕ × ℕ → Bool

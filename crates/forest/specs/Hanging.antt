@@ -1,11 +1,22 @@
 -- What the memory of a forest keeps: the parents that the links laid give, and the root that each link hung.
--- Words: newest (the links laid, the last one first), parents (the parent of each slot), hung_by (the root that an entry hangs).
+-- Words: entry (the slots of a tie), first_entries (those of the first persons), newest (the links laid, the last one first), parents (the parent of each slot),
+-- hung_by (the root that a link hangs).
 -- Assumes nothing.
-use Rattle.std.specs.Prelude.{◌≡◌, ℕ, ◌≤◌, min, max, true, List, [], ◌∷◌, reverse, length, take, Some, None, Option, slice_index_or, slice_set}
+use Rattle.std.specs.Prelude.{◌≡◌, ℕ, ◌<◌, ◌≤◌, min, max, true, List, [], ◌∷◌, map, reverse, length, take, Some, None, Option, slice_index_or, slice_set}
 use Rattle.std.specs.List.{range_with_len}
+use Rattle.std.specs.Option.{option_map}
 use Rattle.figures.specs.Lists.{every}
 use Rattle.figures.proofs.Names.{name}
+use Rattle.forest.specs.declared.trees.Tie.{Tie}
 use Rattle.forest.specs.Entries.{links_laid, in_range}
+
+-- the entry of a person, by its tie: the slots that it links
+abbrev pub entry : Option Tie → Option (ℕ × ℕ)
+entry tie = option_map (λ t. t.slots) tie
+
+-- the entries of the first n persons
+abbrev pub first_entries : ℕ → List (Option Tie) → List (Option (ℕ × ℕ))
+first_entries n ties = map entry (take n ties)
 
 -- the links laid, the last one first
 abbrev pub newest : List (Option (ℕ × ℕ)) → List (ℕ × ℕ)
@@ -19,20 +30,19 @@ parents (l ∷ ls) =
     let y = name ls l.1 in
     slice_set (parents ls) (max x y) (min x y)
 
--- the root that an entry hangs, over the links before it
-abbrev pub hung_by : List (ℕ × ℕ) → Option (ℕ × ℕ) → Option ℕ
-hung_by ls None = None
-hung_by ls (Some l) = Some (max (name ls l.0) (name ls l.1))
+-- the root that a link hangs, over the links before it
+abbrev pub hung_by : List (ℕ × ℕ) → ℕ × ℕ → ℕ
+hung_by ls l = max (name ls l.0) (name ls l.1)
 
--- the first `count` entries are those of the persons laid, at most 64, and their links have slots in range
-abbrev pub Kept : List (Option (ℕ × ℕ)) → List (Option ℕ) → ℕ → Type 0
-Kept entries hung count = (length entries ≡ 64) × (length hung ≡ 64) × (count ≤ 64) × (every in_range (newest (take count entries)) ≡ true)
+-- the first `count` ties are those of the persons laid, at most 64, and their links have slots in range
+abbrev pub Kept : List (Option Tie) → ℕ → Type 0
+Kept ties count = record { long : length ties ≡ 64; few : count ≤ 64; range : every in_range (newest (first_entries count ties)) ≡ true }
 
 -- the parents are those that the links laid give
-abbrev pub Grown : List ℕ → List (Option (ℕ × ℕ)) → ℕ → Type 0
-Grown parent entries count = parent ≡ parents (newest (take count entries))
+abbrev pub Grown : List ℕ → List (Option Tie) → ℕ → Type 0
+Grown parent ties count = parent ≡ parents (newest (first_entries count ties))
 
--- the undo entry of each person laid is the root that it hung over the links before it
-abbrev pub Undone : List (Option (ℕ × ℕ)) → List (Option ℕ) → ℕ → Type 0
-Undone entries hung count =
-    (p : ℕ) → slice_index_or (take count hung) p None ≡ hung_by (newest (take p (take count entries))) (slice_index_or (take count entries) p None)
+-- the tie of each person laid, if it has one, tells the root that its link hung over the links before it
+abbrev pub Undone : List (Option Tie) → ℕ → Type 0
+Undone ties count =
+    (p : ℕ) (t : Tie) → p < count → slice_index_or ties p None ≡ Some t → t.hung ≡ hung_by (newest (first_entries p ties)) t.slots

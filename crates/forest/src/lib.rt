@@ -2,6 +2,8 @@
 // back from the last one on.
 #![tactic(auto)]
 
+pub mod faults;
 pub mod trees;
 
+pub use faults::LayFault;
 pub use trees::Forest;

@@ -1,60 +1,56 @@
 // Laying persons, and taking them back.
-ghost use Rattle.std.specs.Prelude.{◌≡◌, ◌-◌, ◌<◌, ◌&&◌, [], length, take, Some, None};
-ghost use Rattle.forest.specs.Entries.{in_range};
-ghost use Rattle.forest.specs.Laid.{laid, has_room, Lays};
+ghost use Rattle.std.specs.Prelude.{◌≡◌, ◌-◌, ◌<◌, [], ◌∷◌, ◌++◌, length, take, Some, None, MatchResult};
+ghost use Rattle.forest.specs.Laid.{laid, lay_answer, pass_answer};
 
-use crate::trees::{Forest, PERSONS, SLOTS};
+use crate::faults::LayFault;
+use crate::trees::{Forest, PERSONS, SLOTS, Tie};
+use std::array;
 
 impl Forest {
     // Nobody is laid, and every slot is alone.
     pub fn new() -> Forest
         ensures { laid result ≡ [] }
     {
-        let mut parent = [0; 64];
-        for slot in 0..SLOTS {
-            parent[slot] = slot;
-        }
         Forest {
-            parent,
-            entries: [None; 64],
-            hung: [None; 64],
+            parent: array::from_fn(|slot| slot),
+            ties: [None; PERSONS],
             count: 0,
         }
     }
 
-    // Lays one more person, who links two slots, told maternal first, and answers whether it did. A 65th person and a slot above 63 are refused, and
-    // change nothing.
-    pub fn lay(&mut self, slots: (usize, usize)) -> bool
-        ensures answer { result ≡ (has_room (laid self.old) && in_range slots) }
-        ensures after { Lays result (Some slots) self.old self.new }
+    // Lays one more person, who links two slots, told maternal first. A 65th person is refused, and then a slot above 63; a refusal changes nothing.
+    pub fn lay(&mut self, slots: (usize, usize)) -> Result<(), LayFault>
+        ensures answer { result ≡ lay_answer (laid self.old) slots }
+        ensures after { MatchResult result (λ _. laid self.new ≡ laid self.old ++ Some slots ∷ []) (λ _. self.new ≡ self.old) }
     {
         let person = self.count;
-        if person >= PERSONS || slots.0 >= SLOTS || slots.1 >= SLOTS {
-            return false;
+        if person >= PERSONS {
+            return Err(LayFault::TooManyPersons);
+        }
+        if slots.0 >= SLOTS || slots.1 >= SLOTS {
+            return Err(LayFault::SlotLacking);
         }
         let maternal = self.root(slots.0);
         let paternal = self.root(slots.1);
         let high = maternal.max(paternal);
         let low = maternal.min(paternal);
-        self.entries[person] = Some(slots);
-        self.hung[person] = Some(high);
         self.parent[high] = low;
+        self.ties[person] = Some(Tie { slots, hung: high });
         self.count = person + 1;
-        true
+        Ok(())
     }
 
-    // Lays one more person, who links nothing, and answers whether it did. A 65th person is refused, and changes nothing.
-    pub fn pass(&mut self) -> bool
-        ensures answer { result ≡ has_room (laid self.old) }
-        ensures after { Lays result None self.old self.new }
+    // Lays one more person, who links nothing. A 65th person is refused, and changes nothing.
+    pub fn pass(&mut self) -> Result<(), LayFault>
+        ensures answer { result ≡ pass_answer (laid self.old) }
+        ensures after { MatchResult result (λ _. laid self.new ≡ laid self.old ++ None ∷ []) (λ _. self.new ≡ self.old) }
     {
         if self.count >= PERSONS {
-            return false;
+            return Err(LayFault::TooManyPersons);
         }
-        self.entries[self.count] = None;
-        self.hung[self.count] = None;
+        self.ties[self.count] = None;
         self.count += 1;
-        true
+        Ok(())
     }
 
     // Takes the last person back: the root that it hung is a root again.
@@ -63,9 +59,8 @@ impl Forest {
         ensures { laid self.new ≡ take (length (laid self.old) - 1) (laid self.old) }
     {
         let last = self.count - 1;
-        let undo = self.hung[last];
-        if let Some(root) = undo {
-            self.parent[root] = root;
+        if let Some(tie) = self.ties[last] {
+            self.parent[tie.hung] = tie.hung;
         }
         self.count = last;
     }
@@ -74,7 +69,7 @@ impl Forest {
     pub fn back_to(&mut self, person: usize)
         ensures { laid self.new ≡ take person (laid self.old) }
     {
-        while self.count > person {
+        for _ in person..self.persons() {
             self.take_back();
         }
     }

@@ -1,23 +1,18 @@
 use Rattle.std.proofs.Common.{◌-◌, length, take, sym, ap, ◌∙◌, arith}
 use Rattle.std.proofs.lemmas.List.{length-take, take-take, take_all}
 use Rattle.forest.specs.Laid.{laid}
-use Rattle.forest.proofs.Growing.{persons_laid}
 use Rattle.forest.proofs.trees.Forest.back_to.Goals as goal
 
-pub loop-self-smaller : goal.loop-self-smaller
-loop-self-smaller c =
-    let f = c.loop-self.self in
-    let g = c.take_back.new.self in
-    omega (arith, persons_laid f, persons_laid g, ap length c.take_back.ensures, length-take (length (laid f) - 1) (laid f))
-
-pub loop-self-preserved : goal.loop-self-preserved
-loop-self-preserved c =
-    let f = c.loop-self.self in
+pub loop-preserved : goal.loop-preserved
+loop-preserved c =
+    let before = laid c.loop.self in
     let p = c.args.person in
-    ap (take p) c.take_back.ensures ∙ take-take p (length (laid f) - 1) (laid f) (omega (arith, persons_laid f)) ∙ c.loop-self.invariant
+    record {
+      left = omega (arith, ap length c.take_back.ensures, length-take (length before - 1) before, c.loop.invariant.left);
+      same = ap (take p) c.take_back.ensures ∙ take-take p (length before - 1) before (omega (arith, c.loop.invariant.left)) ∙ c.loop.invariant.same;
+    }
 
 pub returns : goal.returns
 returns c =
-    let f = c.loop-self.self in
-    let p = c.args.person in
-    sym (take_all p (laid f) (omega (arith, persons_laid f))) ∙ c.loop-self.invariant
+    let after = laid c.loop.self in
+    sym (take_all c.args.person after (omega (arith, c.loop.invariant.left))) ∙ c.loop.invariant.same

@@ -1,8 +1,8 @@
-use Rattle.std.proofs.Common.{Some, sym, ap, arith}
+use Rattle.std.proofs.Common.{arith}
 use Rattle.std.proofs.lemmas.Bool.{and_from, lt-ltb}
 use Rattle.forest.specs.Laid.{links_of}
 use Rattle.forest.proofs.Chained.{root_name}
-use Rattle.forest.proofs.Growing.{memory_some, persons_laid, laid_more}
+use Rattle.forest.proofs.Growing.{memory_some}
 use Rattle.forest.proofs.trees.Forest.lay.Goals as goal
 
 pub invariant_of-self : goal.invariant_of-self
@@ -11,13 +11,4 @@ invariant_of-self c =
     let l = c.args.slots in
     let x = root_name (links_of f) _ c.root-maternal.result (c.root-maternal.ensures.joined, c.root-maternal.ensures.lowest) in
     let y = root_name (links_of f) _ c.root-paternal.result (c.root-paternal.ensures.joined, c.root-paternal.ensures.lowest) in
-    memory_some f _ _ _ (omega arith) (omega arith) l c.root-maternal.result c.root-paternal.result _ _ (and_from _ _ (lt-ltb l.0 64 (omega arith)) (lt-ltb l.1 64 (omega arith))) (omega (arith, x)) (omega (arith, y)) (omega arith) (omega arith) (search) (ap Some (omega arith))
-
-pub returns : goal.returns
-returns c =
-    let f = c.args.self.now in
-    let l = c.args.slots in
-    record {
-      answer = sym (and_from _ _ (lt-ltb _ 64 (omega (arith, persons_laid f))) (and_from _ _ (lt-ltb l.0 64 (omega arith)) (lt-ltb l.1 64 (omega arith))));
-      after = laid_more f _ _ _ (omega arith) (omega arith) (search);
-    }
+    memory_some f (omega arith) l c.root-maternal.result c.root-paternal.result _ _ (and_from _ _ (lt-ltb l.0 64 (omega arith)) (lt-ltb l.1 64 (omega arith))) x y (omega arith) (omega arith)

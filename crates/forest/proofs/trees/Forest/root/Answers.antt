@@ -13,25 +13,27 @@ module _ (f : Forest) (s up : ℕ) (is : up ≡ get_or f.parent s s) where
   grown = is ∙ ap (λ ps. get_or ps s s) f.grown
 
   below : up ≤ s
-  below = subst (λ n. n ≤ s) (sym grown) (parent_le (newest (laid f)) s f.kept.3)
+  below = subst (λ n. n ≤ s) (sym grown) (parent_le (newest (laid f)) s f.kept.range)
 
   same_name : name (newest (laid f)) up ≡ name (newest (laid f)) s
-  same_name = ap (name (newest (laid f))) grown ∙ parent_name (newest (laid f)) s f.kept.3
+  same_name = ap (name (newest (laid f))) grown ∙ parent_name (newest (laid f)) s f.kept.range
 
   own_name : up ≡ s → name (newest (laid f)) s ≡ s
-  own_name e = root_named (newest (laid f)) s f.kept.3 (sym grown ∙ e)
+  own_name e = root_named (newest (laid f)) s f.kept.range (sym grown ∙ e)
 
-pub loop-up-preserved : goal.loop-up-preserved
-loop-up-preserved c =
-    let l = c.loop-up in
-    (omega arith, same_name c.args.self.now l.at l.up l.invariant.0 ∙ l.invariant.1)
+pub loop-root-preserved : goal.loop-root-preserved
+loop-root-preserved c =
+    let l = c.loop-root in
+    same_name c.args.self.now l.root _ c.parent_of-root.ensures ∙ l.invariant
 
-pub loop-up-smaller : goal.loop-up-smaller
-loop-up-smaller c = let l = c.loop-up in omega (arith, below c.args.self.now l.at l.up l.invariant.0)
+pub loop-root-smaller : goal.loop-root-smaller
+loop-root-smaller c =
+    let h = below c.args.self.now c.loop-root.root _ c.parent_of-root.ensures in
+    omega (arith, c.parent_of.ensures)
 
 pub returns : goal.returns
 returns c =
     let f = c.args.self.now in
-    let l = c.loop-up in
-    let root = name_root (links_of f) c.args.slot l.at (sym l.invariant.1 ∙ own_name f l.at l.up l.invariant.0 (omega arith)) in
-    record { joined = root.0; lowest = root.1; same = roots_tell (links_of f) c.args.slot l.at root }
+    let l = c.loop-root in
+    let root = name_root (links_of f) c.args.slot l.root (sym l.invariant ∙ own_name f l.root _ c.parent_of.ensures c.loop-root-test.false) in
+    record { joined = root.0; lowest = root.1; same = roots_tell (links_of f) c.args.slot l.root root }
