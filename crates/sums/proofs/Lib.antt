@@ -1,5 +1,7 @@
 pub mod Lawful
 pub mod Reaching
+pub mod Pushed
+pub mod Tests
 pub mod Views
 pub mod Searches
 pub mod Powers
