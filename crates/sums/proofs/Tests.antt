@@ -1,7 +1,7 @@
 -- The tests of a list, by the library's words.
 -- Assumes nothing.
-use Rattle.std.proofs.Common.{◌≡◌, Bool, ◌&&◌, ◌||◌, List, [], ◌∷◌, refl, ap}
-use Rattle.std.specs.List.{list_all, list_any}
+use Rattle.std.proofs.Common.{◌≡◌, ℕ, suc, ◌+◌, ◌<◌, Bool, ◌&&◌, ◌||◌, List, [], ◌∷◌, length, get_or, refl, ap, ◌∙◌, ap₂, add-zero, arith}
+use Rattle.std.specs.List.{list_all, list_any, range_with_len, enumerate_from}
 use Rattle.figures.specs.Lists.{every, some_passes}
 
 module _ {X : Type 0} (f : X → Bool) where
@@ -9,6 +9,13 @@ module _ {X : Type 0} (f : X → Bool) where
   every_all [] = refl
   every_all (x ∷ xs) = ap (λ b. f x && b) (every_all xs)
 
-  pub some_any : (xs : List X) → some_passes f xs ≡ list_any f xs
+  some_any : (xs : List X) → some_passes f xs ≡ list_any f xs
   some_any [] = refl
   some_any (x ∷ xs) = ap (λ b. f x || b) (some_any xs)
+
+-- a test of each element with its number, by a function that tells the elements
+pub some_numbered : {X : Type 0} (f : ℕ × X → Bool) (d : X) (tell : ℕ → X) (n : ℕ) (xs : List X) → ((i : ℕ) → i < length xs → get_or xs i d ≡ tell (n + i)) → list_any f (enumerate_from n xs) ≡ some_passes (λ p. f (p, tell p)) (range_with_len n (length xs))
+some_numbered f d tell n [] is = refl
+some_numbered f d tell n (x ∷ xs) is =
+    ap₂ ◌||◌ (ap (λ y. f (n, y)) (is 0 (omega arith) ∙ ap tell (add-zero n)))
+    (some_numbered f d tell (n + 1) xs (λ i h. is (suc i) (omega arith) ∙ ap tell (omega arith)))

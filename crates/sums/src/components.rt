@@ -23,20 +23,13 @@ const MOST: usize = 65_536;
 const ALLELES: usize = 16;
 
 impl<M: Model> Site<'_, M> {
-    // Whether the reading of a person is of class several and belongs to a component.
-    fn is_several_in(&self, person: usize, found: &Gathered) -> bool
-        requires { person < self.now.held.now.persons }
-        ensures { result ≡ (is_several (M.Model.classes self.now.model.now self.now.locus person) && has (items found.now) (pair_of self.now.held.now person).0) }
-    {
-        let (slot, _) = self.held.pairs[person];
-        matches!(self.model.class(self.locus, person), Class::Several) && found.contains(slot)
-    }
-
     // Whether a component has a reading of class several.
     fn has_several(&self, found: &Gathered) -> bool
         ensures { result ≡ several_in self.now.held.now (M.Model.classes self.now.model.now self.now.locus) (items found.now) }
     {
-        (0..self.held.persons).any(|person| self.is_several_in(person, found))
+        self.held.pairs().iter().enumerate().any(|(person, (slot, _))| {
+            matches!(self.model.class(self.locus, person), Class::Several) && found.contains(*slot)
+        })
     }
 
     // The locus with the costs of its alleles, where it is not wide.
