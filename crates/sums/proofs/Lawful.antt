@@ -75,6 +75,3 @@ pushed_new ss s small new =
 
 pub pushed_old : (ss : List ℕ) (s : ℕ) → has ss s ≡ true → ss ≡ pushed ss s
 pushed_old ss s old = sym (cond-false (ltb s 64 && not (has ss s)) (ss ++ s ∷ []) ss (and_right (ltb s 64) (not (has ss s)) (not_from_true (has ss s) old)))
-
-pub pushed_large : (ss : List ℕ) (s : ℕ) → 64 ≤ s → ss ≡ pushed ss s
-pushed_large ss s large = sym (cond-false (ltb s 64 && not (has ss s)) (ss ++ s ∷ []) ss (and_left (ltb s 64) (not (has ss s)) (le-ltb s 64 large)))

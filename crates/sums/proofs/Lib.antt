@@ -4,6 +4,5 @@ pub mod Pushed
 pub mod Tests
 pub mod Views
 pub mod Searches
-pub mod Powers
 pub mod Parting
 pub mod Masked

@@ -16,7 +16,7 @@ use Rattle.sums.specs.Searching.{Searching, pair_of, is_set, agrees}
 use Rattle.sums.specs.Seen.{told, seen}
 use Rattle.sums.specs.Widths.{is_several, several_in, too_wide}
 use Rattle.sums.specs.declared.slots.Held.{Held}
-use Rattle.sums.proofs.Powers.{some_from}
+use Rattle.sums.proofs.Tests.{some_from}
 use Rattle.sums.proofs.Views.{told_at, reading_in, in_reading}
 
 -- the components so far have exactly the slots gathered, and cover those below i
