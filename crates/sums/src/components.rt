@@ -70,10 +70,11 @@ impl<M: Model> Site<'_, M> {
 }
 
 impl<M: Model> Priced<'_, M> {
-    // Whether a component is wide. A power that has no value is above what is searched.
+    // Whether a component is wide. A power that is too large for its type is above what is searched.
     fn is_too_wide(&self, found: &Gathered) -> bool
         ensures { result ≡ too_wide self.now.site.now.held.now (M.Model.classes self.now.site.now.model.now self.now.site.now.locus) (length self.now.costs.now) (items found.now) }
     {
+        // At most 64 slots are gathered, so the cast loses nothing.
         let slots = found.slots().len() as u32;
         self.site.has_several(found)
             && self
@@ -83,7 +84,7 @@ impl<M: Model> Priced<'_, M> {
                 .is_none_or(|power| power > MOST)
     }
 
-    // Whether any component is wide.
+    // Whether any component is wide. The slots are the numbers below their count.
     fn is_wide(&self) -> bool
         ensures { MatchBool result (Wide (seen self.now.site.now.held.now (length self.now.costs.now) (M.Model.classes self.now.site.now.model.now self.now.site.now.locus) (M.Model.fitting self.now.site.now.model.now self.now.site.now.locus))) (Wide (seen self.now.site.now.held.now (length self.now.costs.now) (M.Model.classes self.now.site.now.model.now self.now.site.now.locus) (M.Model.fitting self.now.site.now.model.now self.now.site.now.locus)) → ⊥) }
     {

@@ -98,6 +98,7 @@ impl<M: Model> Site<'_, M> {
     {
         let mut found = Gathered::new();
         found.push(slot);
+        // The list grows while it is gone through, so the loop is over its places.
         for next in 0..SLOTS {
             let Some(&from) = found.slots().get(next) else {
                 break;

@@ -2,7 +2,7 @@
 use crate::slots::Held;
 
 // The slots that the persons hold, the model of the readings, and the number of the locus.
-#[derive(Drop)]
+#[derive_where(Clone, Copy)]
 pub struct Site<'a, M> {
     pub held: &'a Held,
     pub model: &'a M,

@@ -2,7 +2,7 @@
 ghost use Rattle.sums.specs.Within.{Within};
 
 // The pair of slots of each person, maternal first; the memory past the last person is of no use.
-// The memory is fixed and the fields are public, as the rules of the library ask; `pairs()` lends the pairs of the persons alone.
+// The fields are a fixed array and its count, since the type is public and Copy, and there is no heap. `pairs()` lends the pairs of the persons alone.
 #[derive(Clone, Copy)]
 pub struct Held {
     pub pairs: [(usize, usize); 64],
