@@ -1,14 +1,13 @@
 -- Slots below 64, none twice: there are at most 64, and one more may be pushed.
 -- Assumes nothing.
-use Rattle.std.proofs.Common.{◌≡◌, ℕ, ◌+◌, ◌<◌, ◌≤◌, Bool, true, false, not, ◌&&◌, ◌||◌, eqb, ltb, ◌⊎◌, List, [], ◌∷◌, ◌++◌, length, get_or, set, replicate, sym, refl, ap, ◌∙◌, subst, inl, inr, arith}
+use Rattle.std.proofs.Common.{◌≡◌, ℕ, ◌+◌, ◌<◌, ◌≤◌, true, false, not, ◌&&◌, ltb, ◌⊎◌, List, [], ◌∷◌, ◌++◌, length, sym, refl, ◌∙◌, subst, inl, inr, arith}
 use Rattle.std.specs.List.{range_with_len}
 use Rattle.std.proofs.lemmas.List.FromFn.{length-range_with_len}
-use Rattle.std.proofs.lemmas.List.{get_or-set_same, get_or-set_other, get_or-replicate, get_or_past, length-replicate}
-use Rattle.std.proofs.lemmas.Bool.{and_parts, and_from, and_left, and_right, not_from_true, cond-true, cond-false, cases_eq, cases_lt, cases_Bool, not-true, not_from_false, lt-ltb, ltb-true, le-ltb, eq-eqb, ne_eqb, both_ways}
+use Rattle.std.proofs.lemmas.Bool.{and_parts, and_from, and_left, and_right, not_from_true, cond-true, cond-false, cases_Bool, not-true, not_from_false, lt-ltb, ltb-true, le-ltb, both_ways}
 use Rattle.figures.specs.Lists.{every, In, Once}
 use Rattle.figures.specs.Graph.{has}
 use Rattle.figures.proofs.Members.{in_append, in_counting, once_append, every_from, every_at, has_in, in_has, no_more}
-use Rattle.sums.specs.Ordered.{distinct, Marked, lawful, pushed}
+use Rattle.sums.specs.Ordered.{distinct, lawful, pushed}
 
 pub has_not : (ss : List ℕ) (s : ℕ) → has ss s ≡ false → In s ss → ⊥
 has_not ss s e i = both_ways (has ss s) e (in_has ss s i)
@@ -39,6 +38,11 @@ module _ (ss : List ℕ) (law : lawful ss ≡ true) where
   lawful_below s i =
       ltb-true s 64 (every_at (λ t. ltb t 64) s ss (and_parts (distinct ss) (every (λ t. ltb t 64) ss) law).1 i)
 
+  pub lawful_few : length ss ≤ 64
+  lawful_few =
+      let h = no_more (λ x y. x ≡ y) ss (range_with_len 0 64) (λ x z y i j p q. p ∙ sym q) lawful_once (λ x i. (x, in_counting 0 64 x (omega arith) (omega (arith, lawful_below x i)), refl)) in
+      omega (arith, h, length-range_with_len 0 64)
+
   module _ (s : ℕ) (small : s < 64) (new : has ss s ≡ false) where
     -- there is room for a slot that is not there yet
     pub room : length ss < 64
@@ -65,50 +69,9 @@ module _ (ss : List ℕ) (law : lawful ss ≡ true) where
         below t (inr (inl e)) = omega arith
         below t (inr (inr j)) = elim j [ ]
 
-pub has_push : (ss : List ℕ) (s t : ℕ) → has (ss ++ s ∷ []) t ≡ (has ss t || eqb t s)
-has_push [] s t = or_false (eqb t s)
-  where
-    or_false : (b : Bool) → (b || false) ≡ b
-    or_false true = refl
-    or_false false = refl
-has_push (x ∷ ss) s t = ap (λ b. eqb t x || b) (has_push ss s t) ∙ or_assoc (eqb t x) (has ss t) (eqb t s)
-  where
-    or_assoc : (a b c : Bool) → (a || (b || c)) ≡ ((a || b) || c)
-    or_assoc true b c = refl
-    or_assoc false b c = refl
-
-pub marked_push : (marks : List Bool) (ss : List ℕ) (s : ℕ) → length marks ≡ 64 → s < 64 → Marked marks ss → Marked (set marks s true) (ss ++ s ∷ [])
-marked_push marks ss s e small m t = go (cases_eq t s)
-  where
-    or_true : (b : Bool) → (b || true) ≡ true
-    or_true true = refl
-    or_true false = refl
-
-    or_false : (b : Bool) → (b || false) ≡ b
-    or_false true = refl
-    or_false false = refl
-
-    go : (t ≡ s) ⊎ (t ≡ s → ⊥) → get_or (set marks s true) t false ≡ has (ss ++ s ∷ []) t
-    go (inl q) =
-        ap (λ u. get_or (set marks s true) u false) q ∙ get_or-set_same marks s true false (omega arith)
-        ∙ sym (has_push ss s t ∙ ap (λ b. has ss t || b) (eq-eqb t s q) ∙ or_true (has ss t))
-    go (inr ne) =
-        get_or-set_other marks s t true false ne ∙ m t
-        ∙ sym (has_push ss s t ∙ ap (λ b. has ss t || b) (ne_eqb t s ne) ∙ or_false (has ss t))
-
 pub pushed_new : (ss : List ℕ) (s : ℕ) → s < 64 → has ss s ≡ false → ss ++ s ∷ [] ≡ pushed ss s
 pushed_new ss s small new =
     sym (cond-true (ltb s 64 && not (has ss s)) (ss ++ s ∷ []) ss (and_from (ltb s 64) (not (has ss s)) (lt-ltb s 64 small) (not_from_false (has ss s) new)))
 
 pub pushed_old : (ss : List ℕ) (s : ℕ) → has ss s ≡ true → ss ≡ pushed ss s
 pushed_old ss s old = sym (cond-false (ltb s 64 && not (has ss s)) (ss ++ s ∷ []) ss (and_right (ltb s 64) (not (has ss s)) (not_from_true (has ss s) old)))
-
-pub pushed_large : (ss : List ℕ) (s : ℕ) → 64 ≤ s → ss ≡ pushed ss s
-pushed_large ss s large = sym (cond-false (ltb s 64 && not (has ss s)) (ss ++ s ∷ []) ss (and_left (ltb s 64) (not (has ss s)) (le-ltb s 64 large)))
-
-pub unmarked : (n s : ℕ) → get_or (replicate n false) s false ≡ false
-unmarked n s = go (cases_lt s n)
-  where
-    go : (s < n) ⊎ (n ≤ s) → get_or (replicate n false) s false ≡ false
-    go (inl h) = get_or-replicate n s false false h
-    go (inr h) = get_or_past (replicate n false) s false (omega (arith, length-replicate n false))

@@ -1,7 +1,8 @@
 pub mod Lawful
 pub mod Reaching
+pub mod Pushed
+pub mod Tests
 pub mod Views
 pub mod Searches
-pub mod Powers
 pub mod Parting
 pub mod Masked

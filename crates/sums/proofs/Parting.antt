@@ -16,30 +16,30 @@ use Rattle.sums.specs.Searching.{Searching, pair_of, is_set, agrees}
 use Rattle.sums.specs.Seen.{told, seen}
 use Rattle.sums.specs.Widths.{is_several, several_in, too_wide}
 use Rattle.sums.specs.declared.slots.Held.{Held}
-use Rattle.sums.proofs.Powers.{some_from}
+use Rattle.sums.proofs.Tests.{some_from}
 use Rattle.sums.proofs.Views.{told_at, reading_in, in_reading}
 
--- the components gathered so far are marked, and cover the slots below i
-pub record Parted (n : ℕ) (ls : List (ℕ × ℕ)) (marks : List Bool) (i : ℕ) (cs : List (List ℕ)) : Type 0 where
+-- the components so far have exactly the slots gathered, and cover those below i
+pub record Parted (n : ℕ) (ls : List (ℕ × ℕ)) (gathered : List ℕ) (i : ℕ) (cs : List (List ℕ)) : Type 0 where
   pub each : (c : List ℕ) → In c cs → (s : ℕ) × In s c × Component n ls s c
   pub once : Once (flat_map (λ c. c) cs)
-  pub marked : (t : ℕ) → get_or marks t false ≡ true → In t (flat_map (λ c. c) cs)
-  pub known : (t : ℕ) → In t (flat_map (λ c. c) cs) → get_or marks t false ≡ true
+  pub marked : (t : ℕ) → has gathered t ≡ true → In t (flat_map (λ c. c) cs)
+  pub known : (t : ℕ) → In t (flat_map (λ c. c) cs) → has gathered t ≡ true
   pub covered : (t : ℕ) → t < i → In t (flat_map (λ c. c) cs)
 
 module _ (n : ℕ) (ls : List (ℕ × ℕ)) where
-  pub parted_none : (marks : List Bool) → ((t : ℕ) → get_or marks t false ≡ false) → Parted n ls marks 0 []
-  parted_none marks blank = record {
+  pub parted_none : (gathered : List ℕ) → ((t : ℕ) → has gathered t ≡ false) → Parted n ls gathered 0 []
+  parted_none gathered blank = record {
     each = λ c i. elim i [ ];
     once = tt;
-    marked = λ t e. absurd (both_ways (get_or marks t false) (blank t) e);
+    marked = λ t e. absurd (both_ways (has gathered t) (blank t) e);
     known = λ t i. elim i [ ];
     covered = λ t h. absurd (omega arith);
   }
 
-  module _ (marks : List Bool) (i : ℕ) (cs : List (List ℕ)) (p : Parted n ls marks i cs) where
+  module _ (gathered : List ℕ) (i : ℕ) (cs : List (List ℕ)) (p : Parted n ls gathered i cs) where
     -- a slot gathered before
-    pub parted_old : get_or marks i false ≡ true → Parted n ls marks (i + 1) cs
+    pub parted_old : has gathered i ≡ true → Parted n ls gathered (i + 1) cs
     parted_old e = record {
       each = p.each;
       once = p.once;
@@ -49,15 +49,15 @@ module _ (n : ℕ) (ls : List (ℕ × ℕ)) where
     }
       where
         go : (t : ℕ) → t < i + 1 → (t ≡ i) ⊎ (t ≡ i → ⊥) → In t (flat_map (λ c. c) cs)
-        go t h (inl q) = p.marked t (ap (λ u. get_or marks u false) q ∙ e)
+        go t h (inl q) = p.marked t (ap (λ u. has gathered u) q ∙ e)
         go t h (inr ne) = p.covered t (omega arith)
 
     -- a new component
-    pub parted_new : (c : List ℕ) (new : List Bool) → i < n → Component n ls i c → get_or marks i false ≡ false → ((t : ℕ) → get_or new t false ≡ (get_or marks t false || has c t)) → Parted n ls new (i + 1) (c ∷ cs)
+    pub parted_new : (c : List ℕ) (new : List ℕ) → i < n → Component n ls i c → has gathered i ≡ false → ((t : ℕ) → has new t ≡ (has gathered t || has c t)) → Parted n ls new (i + 1) (c ∷ cs)
     parted_new c new small comp free is = record {
       each = λ d j. which d j;
       once = once_append c (flat_map (λ d. d) cs) comp.once p.once apart;
-      marked = λ t e. from_mark t (or_cases (get_or marks t false) (has c t) (sym (is t) ∙ e));
+      marked = λ t e. from_mark t (or_cases (has gathered t) (has c t) (sym (is t) ∙ e));
       known = λ t j. is t ∙ to_mark t (in_append t c (flat_map (λ d. d) cs) j);
       covered = λ t h. go t h (cases_eq t i);
     }
@@ -74,22 +74,22 @@ module _ (n : ℕ) (ls : List (ℕ × ℕ)) where
             let q = joined_in (λ d. d) t cs k in
             let e = p.each q.0 q.1 in
             let chained : Chain ls e.0 i = join ((e.2.exactly t).0 q.2).1 (back ((comp.exactly t).0 j).1) in
-            both_ways (get_or marks i false) free (p.known i (in_joined (λ d. d) q.0 i cs q.1 ((e.2.exactly i).1 (small, chained))))
+            both_ways (has gathered i) free (p.known i (in_joined (λ d. d) q.0 i cs q.1 ((e.2.exactly i).1 (small, chained))))
 
-        from_mark : (t : ℕ) → (get_or marks t false ≡ true) ⊎ (has c t ≡ true) → In t (c ++ flat_map (λ d. d) cs)
+        from_mark : (t : ℕ) → (has gathered t ≡ true) ⊎ (has c t ≡ true) → In t (c ++ flat_map (λ d. d) cs)
         from_mark t (inl e) = in_right t c (flat_map (λ d. d) cs) (p.marked t e)
         from_mark t (inr e) = in_left t c (flat_map (λ d. d) cs) (has_in c t e)
 
-        to_mark : (t : ℕ) → In t c ⊎ In t (flat_map (λ d. d) cs) → (get_or marks t false || has c t) ≡ true
-        to_mark t (inl j) = or_right (get_or marks t false) (has c t) (in_has c t j)
-        to_mark t (inr j) = or_left (get_or marks t false) (has c t) (p.known t j)
+        to_mark : (t : ℕ) → In t c ⊎ In t (flat_map (λ d. d) cs) → (has gathered t || has c t) ≡ true
+        to_mark t (inl j) = or_right (has gathered t) (has c t) (in_has c t j)
+        to_mark t (inr j) = or_left (has gathered t) (has c t) (p.known t j)
 
         go : (t : ℕ) → t < i + 1 → (t ≡ i) ⊎ (t ≡ i → ⊥) → In t (c ++ flat_map (λ d. d) cs)
         go t h (inl q) = in_left t c (flat_map (λ d. d) cs) (subst (λ u. In u c) (sym q) own_slot)
         go t h (inr ne) = in_right t c (flat_map (λ d. d) cs) (p.covered t (omega arith))
 
-pub parted_all : (L : Locus) (marks : List Bool) (i : ℕ) (cs : List (List ℕ)) → L.slots ≤ i → Parted L.slots (links L.readings) marks i cs → Components L cs
-parted_all L marks i cs h p = record {
+pub parted_all : (L : Locus) (gathered : List ℕ) (i : ℕ) (cs : List (List ℕ)) → L.slots ≤ i → Parted L.slots (links L.readings) gathered i cs → Components L cs
+parted_all L gathered i cs h p = record {
   each = p.each;
   once = p.once;
   all = λ s l. p.covered s (omega arith);
@@ -158,12 +158,10 @@ narrow_more test d ds e h c (inl q) = ap test q ∙ e
 narrow_more test d ds e h c (inr i) = h c i
 
 -- nothing is set at the start
-pub nothing_set : (h : Held) (fits : ℕ → ℕ → ℕ → Bool) (order : List ℕ) → ((t : ℕ) → In t order → t < 64) → Once order → Searching h fits order 0 (replicate 64 None)
-nothing_set h fits order small once = record {
-  bounded = omega arith;
-  slots = small;
+pub nothing_set : (h : Held) (fits : ℕ → ℕ → ℕ → Bool) (slots : List ℕ) → Once slots → Searching h fits [] slots (replicate 64 None)
+nothing_set h fits slots once = record {
   once = once;
-  done = λ t i. elim i [ ];
+  set = λ t i. elim i [ ];
   only = λ t e. absurd (both_ways (is_set (replicate 64 None) t) (ap is_some (blank t)) e);
   fitting = λ p l. ap₂ (agrees (fits p)) (blank (pair_of h p).0) (blank (pair_of h p).1);
 }

@@ -1,6 +1,6 @@
 -- What holds of the locus that slots held by persons and a model give.
 -- Assumes nothing.
-use Rattle.std.proofs.Common.{◌≡◌, ℕ, ◌+◌, ◌<◌, Bool, true, false, List, map, length, get_or, sym, ap, ◌∙◌, subst, ap₂, arith}
+use Rattle.std.proofs.Common.{◌≡◌, ℕ, ◌+◌, ◌<◌, Bool, true, false, List, map, length, get_or, sym, ap, ◌∙◌, subst, arith}
 use Rattle.std.specs.List.{range_with_len}
 use Rattle.std.proofs.lemmas.List.{get_or-take, length-take-le}
 use Rattle.pedigree.specs.Slots.{slots_at}
@@ -11,9 +11,8 @@ use Rattle.figures.specs.Locus.{Reading, loud}
 use Rattle.figures.specs.Graph.{Sound, links}
 use Rattle.figures.specs.View.{reading_of, readings_of}
 use Rattle.figures.proofs.Members.{in_map, map_in, kept_in, in_counting, counting_in}
-use Rattle.sums.specs.Gathering.{items, follow, reached}
+use Rattle.sums.specs.Gathering.{follow, reached}
 use Rattle.sums.specs.Seen.{told, seen}
-use Rattle.sums.specs.declared.order.Gathered.{Gathered}
 use Rattle.sums.specs.declared.slots.Held.{Held}
 use Rattle.sums.proofs.Reaching.{links_silent, reached_loud}
 
@@ -57,13 +56,9 @@ seen_sound h k locus class fits rules = record {
       ap (λ z. z.fits x y) q.2 ∙ rules.named locus q.0 a b x y (sym (ap (λ z. z.class) q.2) ∙ e);
 }
 
-pub items_length : (g : Gathered) → length (items g) ≡ g.count
-items_length g = length-take-le g.count g.order (omega (arith, g.sized.0, g.sized.2))
-
 module _ (h : Held) (class : ℕ → Class) (fits : ℕ → ℕ → ℕ → Bool) (i s : ℕ) (ss found after : List ℕ) where
-  pub reach_loud : i < h.persons → loud (class i) ≡ true → found ≡ reached (links (map (reading_of (told h) class fits) (range_with_len 0 i))) s ss → after ≡ follow s found (get_or h.pairs i (0, 0)) → after ≡ reached (links (map (reading_of (told h) class fits) (range_with_len 0 (i + 1)))) s ss
-  reach_loud l e p q =
-      q ∙ ap₂ (follow s) p (sym (told_at h class fits i l)) ∙ reached_loud (reading_of (told h) class fits) i s ss e
+  pub reach_loud : loud (class i) ≡ true → found ≡ reached (links (map (reading_of (told h) class fits) (range_with_len 0 i))) s ss → after ≡ follow s found (slots_at (told h) i) → after ≡ reached (links (map (reading_of (told h) class fits) (range_with_len 0 (i + 1)))) s ss
+  reach_loud e p q = q ∙ ap (λ xs. follow s xs (slots_at (told h) i)) p ∙ reached_loud (reading_of (told h) class fits) i s ss e
 
   pub reach_silent : loud (class i) ≡ false → found ≡ reached (links (map (reading_of (told h) class fits) (range_with_len 0 i))) s ss → found ≡ reached (links (map (reading_of (told h) class fits) (range_with_len 0 (i + 1)))) s ss
   reach_silent e p = p ∙ ap (λ ls. reached ls s ss) (sym (links_silent (reading_of (told h) class fits) i e))

@@ -1,12 +1,12 @@
 -- Gathering the slots of a component link by link.
 -- Assumes nothing.
-use Rattle.std.specs.Prelude.{ℕ, cond, List, take, fold, ◌==◌}
+use Rattle.std.specs.Prelude.{ℕ, cond, List, fold, ◌==◌}
 use Rattle.sums.specs.declared.order.Gathered.{Gathered}
 use Rattle.sums.specs.Ordered.{pushed}
 
 -- the slots gathered, in their order
 abbrev pub items : Gathered → List ℕ
-items g = take g.count g.order
+items g = g.slots.items
 
 -- the slots gathered, and the other end of a link that has slot s at one end
 abbrev pub follow : ℕ → List ℕ → ℕ × ℕ → List ℕ

@@ -1,6 +1,6 @@
 -- A search over the alleles of slots: those set so far, and whether they fit.
 -- Assumes nothing.
-use Rattle.std.specs.Prelude.{◌≡◌, ℕ, ◌<◌, ◌≤◌, Bool, true, not, ◌||◌, List, length, take, is_some, Some, None, Option, ◌==◌, slice_index_or}
+use Rattle.std.specs.Prelude.{◌≡◌, ℕ, ◌<◌, Bool, true, not, ◌||◌, List, ◌++◌, is_some, Some, None, Option, ◌==◌, slice_index_or}
 use Rattle.std.specs.Option.{unwrap_or}
 use Rattle.figures.specs.Graph.{own}
 use Rattle.figures.specs.Lists.{every, In, Once}
@@ -31,13 +31,11 @@ abbrev pub passes_at : Held → (ℕ → ℕ → ℕ → Bool) → List (Option 
 passes_at h fits alleles slot p =
     not ((pair_of h p).0 == slot || (pair_of h p).1 == slot) || agrees (fits p) (slice_index_or alleles (pair_of h p).0 None) (slice_index_or alleles (pair_of h p).1 None)
 
--- the alleles of exactly the first `at` slots of the order are set, and fit all readings of which both slots are set
-pub record Searching (h : Held) (fits : ℕ → ℕ → ℕ → Bool) (order : List ℕ) (at : ℕ) (alleles : List (Option ℕ)) : Type 0 where
-  pub bounded : at ≤ length order
-  pub slots : (t : ℕ) → In t order → t < 64
-  pub once : Once order
-  pub done : (t : ℕ) → In t (take at order) → is_set alleles t ≡ true
-  pub only : (t : ℕ) → is_set alleles t ≡ true → In t (take at order)
+-- the alleles of exactly the slots done are set, none of them among the slots left, and fit all readings of which both slots are set
+pub record Searching (h : Held) (fits : ℕ → ℕ → ℕ → Bool) (done left : List ℕ) (alleles : List (Option ℕ)) : Type 0 where
+  pub once : Once (done ++ left)
+  pub set : (t : ℕ) → In t done → is_set alleles t ≡ true
+  pub only : (t : ℕ) → is_set alleles t ≡ true → In t done
   pub fitting : (p : ℕ) → p < h.persons → agrees (fits p) (slice_index_or alleles (pair_of h p).0 None) (slice_index_or alleles (pair_of h p).1 None) ≡ true
 
 -- both slots of the order's own readings stand in the order

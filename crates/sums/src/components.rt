@@ -1,22 +1,18 @@
 // The components of a locus one after the other: their width, and the product of their sums.
-ghost use Rattle.std.specs.Prelude.{◌≡◌, ℕ, ◌-◌, ◌*◌, ◌^◌, ◌<◌, ◌≤◌, false, ◌&&◌, ◌||◌, ◌++◌, length, replicate, MatchBool, nat_lt, slice_index_or};
-ghost use Rattle.pedigree.specs.Building.{persons_of};
-ghost use Rattle.pedigree.specs.Families.{founders_in};
-ghost use Rattle.pedigree.specs.Slots.{slots_of};
+ghost use Rattle.std.specs.Prelude.{◌≡◌, ℕ, ◌<◌, ◌&&◌, length, MatchBool, OnErr, IfOk, IfErr, OnOk};
 ghost use Rattle.figures.specs.Figure.{weights, figure as figure_of};
 ghost use Rattle.figures.specs.Graph.{Wide, Sound, has};
 ghost use Rattle.sums.specs.Gathering.{items};
 ghost use Rattle.sums.specs.Searching.{pair_of};
-ghost use Rattle.sums.specs.Seen.{told, seen, alleles_of};
+ghost use Rattle.sums.specs.Seen.{seen, alleles_of};
 ghost use Rattle.sums.specs.Widths.{Figured, FiguredTwice, Carried, ExcessThroughMask, is_several, several_in, too_wide};
 
-use crate::gather::gather;
 use crate::locus_figure::WideLocus;
 use crate::order::Gathered;
-use crate::search::Site;
+use crate::priced::Priced;
+use crate::site::Site;
 use crate::slots::Held;
 use algebra::Algebra;
-use pedigree::{Family, Meiosis};
 use readings::class::Class;
 use readings::model::Model;
 
@@ -26,149 +22,103 @@ const MOST: usize = 65_536;
 // A locus has this many alleles at most.
 const ALLELES: usize = 16;
 
-// Whether the power of a number of alleles is above what is searched. It stops multiplying once it is.
-fn exceeds(alleles: usize, slots: usize) -> bool
-    requires { alleles ≤ 16 }
-    ensures { result ≡ nat_lt 65536 (alleles ^ slots) }
-{
-    let mut power = 1;
-    for _place in 0..slots {
-        power *= alleles;
-        if power > MOST {
-            return true;
-        }
-    }
-    false
-}
-
-// The marks of slots gathered before, and of those found now.
-fn marked(gathered: [bool; 64], found: &Gathered) -> [bool; 64]
-    ensures { (t : ℕ) → slice_index_or result t false ≡ (slice_index_or gathered t false || slice_index_or found.now.marks t false) }
-{
-    let mut marks = gathered;
-    for slot in 0..64 {
-        marks[slot] = gathered[slot] | found.marks[slot];
-    }
-    marks
-}
-
 impl<M: Model> Site<'_, M> {
-    // Whether the reading of a person is of class several and belongs to a component.
-    fn is_several_in(&self, person: usize, found: &Gathered) -> bool
-        requires { person < self.now.held.now.persons }
-        ensures { result ≡ (is_several (M.Model.classes self.now.model.now self.now.locus person) && has (items found.now) (pair_of self.now.held.now person).0) }
-    {
-        let (slot, _) = self.held.pairs[person];
-        match self.model.class(self.locus, person) {
-            Class::Several => found.marks[slot],
-            Class::Named(_, _) => false,
-            Class::Silent => false,
-        }
-    }
-
     // Whether a component has a reading of class several.
     fn has_several(&self, found: &Gathered) -> bool
         ensures { result ≡ several_in self.now.held.now (M.Model.classes self.now.model.now self.now.locus) (items found.now) }
     {
-        for person in 0..self.held.persons {
-            if self.is_several_in(person, found) {
-                return true;
-            }
-        }
-        false
+        self.held.pairs().iter().enumerate().any(|(person, (slot, _))| {
+            matches!(self.model.class(self.locus, person), Class::Several) && found.contains(*slot)
+        })
     }
 
-    // Whether a component is wide.
-    fn is_too_wide(&self, found: &Gathered) -> bool
-        requires { length self.now.costs.now ≤ 16 }
-        ensures { result ≡ too_wide self.now.held.now (M.Model.classes self.now.model.now self.now.locus) (length self.now.costs.now) (items found.now) }
+    // The locus with the costs of its alleles, where it is not wide.
+    fn narrow<'b>(&'b self, costs: &'b [u16]) -> Result<Priced<'b, M>, WideLocus>
+        ensures site { IfOk result (λ p. p.site.now ≡ self.now) }
+        ensures costs { IfOk result (λ p. p.costs.now ≡ alleles_of costs.now) }
+        ensures narrow { OnOk result (Wide (seen self.now.held.now (length (alleles_of costs.now)) (M.Model.classes self.now.model.now self.now.locus) (M.Model.fitting self.now.model.now self.now.locus)) → ⊥) }
+        ensures wide { OnErr result (Wide (seen self.now.held.now (length (alleles_of costs.now)) (M.Model.classes self.now.model.now self.now.locus) (M.Model.fitting self.now.model.now self.now.locus))) }
+        ensures locus { IfErr result (λ e. e.locus ≡ self.now.locus) }
     {
-        self.has_several(found) && exceeds(self.costs.len(), found.count)
+        let priced = Priced {
+            site: self,
+            costs: &costs[..costs.len().min(ALLELES)],
+        };
+        if priced.is_wide() {
+            return Err(WideLocus { locus: self.locus });
+        }
+        Ok(priced)
     }
-    // Whether any component is wide.
-    fn is_wide(&self) -> bool
-        requires { length self.now.costs.now ≤ 16 }
-        ensures { MatchBool result (Wide (seen self.now.held.now (length self.now.costs.now) (M.Model.classes self.now.model.now self.now.locus) (M.Model.fitting self.now.model.now self.now.locus))) (Wide (seen self.now.held.now (length self.now.costs.now) (M.Model.classes self.now.model.now self.now.locus) (M.Model.fitting self.now.model.now self.now.locus)) → ⊥) }
+
+    // The figure of the locus by an algebra: refused exactly where the locus is wide, and else the sum, over all assignments of alleles that fit the
+    // readings, of the products of their weights. There is one cost for each allele; of more than 16 costs the first 16 count.
+    pub fn figure<V: Algebra>(&self, costs: &[u16]) -> Result<V, WideLocus>
+        ensures { Figured V.Algebra.operations (weights V.Algebra.operations (alleles_of costs.now)) (seen self.now.held.now (length (alleles_of costs.now)) (M.Model.classes self.now.model.now self.now.locus) (M.Model.fitting self.now.model.now self.now.locus)) self.now.locus result }
     {
-        let mut gathered = [false; 64];
-        for slot in 0..self.held.slots {
-            if gathered[slot] {
+        Ok(self.narrow(costs)?.product())
+    }
+
+    // The figures of the locus by two algebras: refused as one figure is; every map that carries the first algebra to the second carries the first
+    // figure to the second.
+    pub fn two_figures<V: Algebra, W: Algebra>(&self, costs: &[u16]) -> Result<(V, W), WideLocus>
+        ensures values { FiguredTwice V.Algebra.operations W.Algebra.operations (weights V.Algebra.operations (alleles_of costs.now)) (weights W.Algebra.operations (alleles_of costs.now)) (seen self.now.held.now (length (alleles_of costs.now)) (M.Model.classes self.now.model.now self.now.locus) (M.Model.fitting self.now.model.now self.now.locus)) self.now.locus result }
+        ensures carried { Carried V.Algebra.operations W.Algebra.operations result }
+    {
+        let priced = self.narrow(costs)?;
+        Ok((priced.product(), priced.product()))
+    }
+}
+
+impl<M: Model> Priced<'_, M> {
+    // Whether a component is wide. A power that is too large for its type is above what is searched.
+    fn is_too_wide(&self, found: &Gathered) -> bool
+        ensures { result ≡ too_wide self.now.site.now.held.now (M.Model.classes self.now.site.now.model.now self.now.site.now.locus) (length self.now.costs.now) (items found.now) }
+    {
+        // At most 64 slots are gathered, so the cast loses nothing.
+        let slots = found.slots().len() as u32;
+        self.site.has_several(found)
+            && self
+                .costs
+                .len()
+                .checked_pow(slots)
+                .is_none_or(|power| power > MOST)
+    }
+
+    // Whether any component is wide. The slots are the numbers below their count.
+    fn is_wide(&self) -> bool
+        ensures { MatchBool result (Wide (seen self.now.site.now.held.now (length self.now.costs.now) (M.Model.classes self.now.site.now.model.now self.now.site.now.locus) (M.Model.fitting self.now.site.now.model.now self.now.site.now.locus))) (Wide (seen self.now.site.now.held.now (length self.now.costs.now) (M.Model.classes self.now.site.now.model.now self.now.site.now.locus) (M.Model.fitting self.now.site.now.model.now self.now.site.now.locus)) → ⊥) }
+    {
+        let mut gathered = Gathered::new();
+        for slot in 0..self.site.held.slots {
+            if gathered.contains(slot) {
                 continue;
             }
-            let found = gather(self.held, self.model, self.locus, slot);
+            let found = self.site.gather(slot);
             if self.is_too_wide(&found) {
                 return true;
             }
-            gathered = marked(gathered, &found);
+            gathered.push_all(&found);
         }
         false
     }
 
     // The product of the sums of all components.
     fn product<V: Algebra>(&self) -> V
-        requires { length self.now.costs.now ≤ 16 }
-        ensures { result ≡ figure_of V.Algebra.operations (weights V.Algebra.operations self.now.costs.now) (seen self.now.held.now (length self.now.costs.now) (M.Model.classes self.now.model.now self.now.locus) (M.Model.fitting self.now.model.now self.now.locus)) }
+        ensures { result ≡ figure_of V.Algebra.operations (weights V.Algebra.operations self.now.costs.now) (seen self.now.site.now.held.now (length self.now.costs.now) (M.Model.classes self.now.site.now.model.now self.now.site.now.locus) (M.Model.fitting self.now.site.now.model.now self.now.site.now.locus)) }
     {
         let mut total = V::one();
-        let mut gathered = [false; 64];
-        for slot in 0..self.held.slots {
-            if gathered[slot] {
+        let mut gathered = Gathered::new();
+        for slot in 0..self.site.held.slots {
+            if gathered.contains(slot) {
                 continue;
             }
-            let found = gather(self.held, self.model, self.locus, slot);
-            let sum: V = self.search(&found.order[0..found.count], 0, [None; 64]);
+            let found = self.site.gather(slot);
+            let sum: V = self.search(found.slots(), [None; 64]);
             total = total.product(sum);
-            gathered = marked(gathered, &found);
+            gathered.push_all(&found);
         }
         total
     }
-}
-
-// The figure of a locus by an algebra: refused exactly where the locus is wide, and else the sum, over all assignments of alleles that fit the
-// readings, of the products of their weights. There is one cost for each allele; of more than 16 costs the first 16 count.
-pub fn figure<'a, V: Algebra, M: Model>(
-    held: &'a Held,
-    model: &'a M,
-    locus: usize,
-    costs: &'a [u16],
-) -> Result<V, WideLocus>
-    ensures { Figured V.Algebra.operations (weights V.Algebra.operations (alleles_of costs.now)) (seen held.now (length (alleles_of costs.now)) (M.Model.classes model.now locus) (M.Model.fitting model.now locus)) locus result }
-{
-    let site = Site {
-        held,
-        model,
-        locus,
-        costs: first_costs(costs),
-    };
-    if site.is_wide() {
-        return Err(WideLocus { locus });
-    }
-    Ok(site.product())
-}
-
-// The figures of a locus by two algebras: refused as one figure is; every map that carries the first algebra to the second carries the first figure to
-// the second.
-pub fn two_figures<'a, V: Algebra, W: Algebra, M: Model>(
-    held: &'a Held,
-    model: &'a M,
-    locus: usize,
-    costs: &'a [u16],
-) -> Result<(V, W), WideLocus>
-    ensures values { FiguredTwice V.Algebra.operations W.Algebra.operations (weights V.Algebra.operations (alleles_of costs.now)) (weights W.Algebra.operations (alleles_of costs.now)) (seen held.now (length (alleles_of costs.now)) (M.Model.classes model.now locus) (M.Model.fitting model.now locus)) locus result }
-    ensures carried { Carried V.Algebra.operations W.Algebra.operations result }
-{
-    let site = Site {
-        held,
-        model,
-        locus,
-        costs: first_costs(costs),
-    };
-    if !site.is_wide() {
-        let first = site.product();
-        let second = site.product();
-        return Ok((first, second));
-    }
-    Err(WideLocus { locus })
 }
 
 // Through a mask a figure is the unmasked one with the excess of silencing added.
@@ -185,31 +135,4 @@ pub fn models_give_sound_loci<M: Model>() -> u8
     ensures value { result ≡ 0 }
 {
     0
-}
-
-// The costs of at most 16 alleles.
-fn first_costs(costs: &[u16]) -> &[u16]
-    ensures { result.now ≡ alleles_of costs.now }
-{
-    if costs.len() > ALLELES {
-        &costs[0..16]
-    } else {
-        costs
-    }
-}
-
-impl Held {
-    // The slots that the persons of a family hold under the meiosis bits of a locus.
-    pub fn of(family: &Family, bits: &[Meiosis; 64]) -> Held
-        ensures told { told result ≡ slots_of (persons_of family.now) bits.now }
-        ensures slots { result.slots ≡ 2 * founders_in (persons_of family.now) }
-        ensures persons { result.persons ≡ length (persons_of family.now) }
-        ensures pairs { result.pairs ≡ slots_of (persons_of family.now) bits.now ++ replicate (64 - length (persons_of family.now)) (0, 0) }
-    {
-        Held {
-            pairs: family.all_slots(bits),
-            persons: family.count(),
-            slots: family.slot_count(),
-        }
-    }
 }

@@ -1,6 +1,6 @@
 // The slots of a component, in the order in which links reach them from the first.
-ghost use Rattle.std.specs.Prelude.{◌≡◌, ◌<◌, [], ◌∷◌};
-ghost use Rattle.figures.specs.Graph.{Component, links};
+ghost use Rattle.std.specs.Prelude.{◌≡◌, ℕ, ◌<◌, ◌≤◌, [], ◌∷◌, ◌||◌, length};
+ghost use Rattle.figures.specs.Graph.{Component, links, has};
 ghost use Rattle.figures.specs.Locus.{loud};
 ghost use Rattle.figures.specs.View.{readings_of};
 ghost use Rattle.sums.specs.Gathering.{items, follow, reached};
@@ -8,9 +8,13 @@ ghost use Rattle.sums.specs.Seen.{told};
 ghost use Rattle.sums.specs.Ordered.{pushed};
 
 use crate::order::Gathered;
-use crate::slots::Held;
+use crate::site::Site;
+use arrayvec::ArrayVec;
 use readings::class::Class;
 use readings::model::Model;
+
+// A family has this many slots at most.
+const SLOTS: usize = 64;
 
 impl Gathered {
     // Nothing gathered.
@@ -18,23 +22,52 @@ impl Gathered {
         ensures { items result ≡ [] }
     {
         Gathered {
-            order: [0; 64],
-            count: 0,
-            marks: [false; 64],
+            slots: ArrayVec::new(),
         }
+    }
+
+    // The slots gathered, in their order.
+    pub(crate) fn slots(&self) -> &[usize]
+        ensures value { result.now ≡ items self.now }
+        ensures few { length result.now ≤ 64 }
+    {
+        self.slots.as_slice()
+    }
+
+    // Whether a slot is there.
+    pub(crate) fn contains(&self, slot: usize) -> bool
+        ensures { result ≡ has (items self.now) slot }
+    {
+        self.slots().contains(&slot)
     }
 
     // One slot more, where it is a slot and not there yet.
     pub(crate) fn push(&mut self, slot: usize)
         ensures { items self.new ≡ pushed (items self.old) slot }
     {
-        if slot < 64 {
-            if !self.marks[slot] {
-                let count = self.count;
-                self.order[count] = slot;
-                self.marks[slot] = true;
-                self.count = count + 1;
-            }
+        if slot < SLOTS && !self.contains(slot) {
+            self.slots.push(slot);
+        }
+    }
+
+    // All slots of others gathered.
+    pub(crate) fn push_all(&mut self, others: &Gathered)
+        ensures { (t : ℕ) → has (items self.new) t ≡ (has (items self.old) t || has (items others.now) t) }
+    {
+        for slot in others.slots() {
+            self.push(*slot);
+        }
+    }
+
+    // The other end of a link that has the slot at one end.
+    fn follow(&mut self, ends: (usize, usize), slot: usize)
+        ensures { items self.new ≡ follow slot (items self.old) ends }
+    {
+        if ends.0 == slot {
+            self.push(ends.1);
+        }
+        if ends.1 == slot {
+            self.push(ends.0);
         }
     }
 }
@@ -43,48 +76,35 @@ impl Gathered {
 pub fn is_loud(class: Class) -> bool
     ensures { result ≡ loud class }
 {
-    match class {
-        Class::Silent => false,
-        Class::Named(_, _) => true,
-        Class::Several => true,
-    }
+    !matches!(class, Class::Silent)
 }
 
-// Gathers the other end of a link that has the slot at one end.
-fn follow_link(found: &mut Gathered, ends: (usize, usize), slot: usize)
-    ensures { items found.new ≡ follow slot (items found.old) ends }
-{
-    if ends.0 == slot {
-        found.push(ends.1);
-    }
-    if ends.1 == slot {
-        found.push(ends.0);
-    }
-}
-
-// Gathers all that a link joins to the slot.
-fn reach<M: Model>(held: &Held, model: &M, locus: usize, slot: usize, found: &mut Gathered)
-    ensures { items found.new ≡ reached (links (readings_of (told held.now) (M.Model.classes model.now locus) (M.Model.fitting model.now locus))) slot (items found.old) }
-{
-    for person in 0..held.persons {
-        if is_loud(model.class(locus, person)) {
-            follow_link(found, held.pairs[person], slot);
+impl<M: Model> Site<'_, M> {
+    // Gathers all that a link joins to the slot.
+    fn reach(&self, slot: usize, found: &mut Gathered)
+        ensures { items found.new ≡ reached (links (readings_of (told self.now.held.now) (M.Model.classes self.now.model.now self.now.locus) (M.Model.fitting self.now.model.now self.now.locus))) slot (items found.old) }
+    {
+        for (person, ends) in self.held.pairs().iter().enumerate() {
+            if is_loud(self.model.class(self.locus, person)) {
+                found.follow(*ends, slot);
+            }
         }
     }
-}
 
-// The component of a slot.
-pub(crate) fn gather<M: Model>(held: &Held, model: &M, locus: usize, slot: usize) -> Gathered
-    requires { slot < held.now.slots }
-    ensures { Component held.now.slots (links (readings_of (told held.now) (M.Model.classes model.now locus) (M.Model.fitting model.now locus))) slot (items result) }
-{
-    let mut found = Gathered::new();
-    found.push(slot);
-    let mut next = 0;
-    while next < found.count {
-        let from = found.order[next];
-        reach(held, model, locus, from, &mut found);
-        next += 1;
+    // The component of a slot.
+    pub(crate) fn gather(&self, slot: usize) -> Gathered
+        requires { slot < self.now.held.now.slots }
+        ensures { Component self.now.held.now.slots (links (readings_of (told self.now.held.now) (M.Model.classes self.now.model.now self.now.locus) (M.Model.fitting self.now.model.now self.now.locus))) slot (items result) }
+    {
+        let mut found = Gathered::new();
+        found.push(slot);
+        // The list grows while it is gone through, so the loop is over its places.
+        for next in 0..SLOTS {
+            let Some(&from) = found.slots().get(next) else {
+                break;
+            };
+            self.reach(from, &mut found);
+        }
+        found
     }
-    found
 }

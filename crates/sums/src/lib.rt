@@ -3,12 +3,16 @@
 
 mod components;
 mod gather;
+mod holding;
 mod locus_figure;
 mod order;
+mod priced;
 mod search;
+mod site;
 mod slots;
 
-pub use components::{figure, masks_add_the_excess, models_give_sound_loci, two_figures};
+pub use components::{masks_add_the_excess, models_give_sound_loci};
 pub use gather::is_loud;
 pub use locus_figure::WideLocus;
+pub use site::Site;
 pub use slots::Held;

@@ -1,25 +1,17 @@
 // The sum of a component: each allele of each slot is tried, and given up as soon as a reading does not fit.
-ghost use Rattle.std.specs.Prelude.{◌≡◌, ◌<◌, ◌≤◌, length, drop};
+ghost use Rattle.std.specs.Prelude.{◌≡◌, ℕ, ◌<◌, List, ◌++◌, length};
 ghost use Rattle.std.specs.List.{range_with_len};
 ghost use Rattle.figures.specs.Figure.{weights};
-ghost use Rattle.figures.specs.Lists.{every};
+ghost use Rattle.figures.specs.Lists.{every, In};
 ghost use Rattle.figures.specs.View.{readings_of};
 ghost use Rattle.figures.proofs.Searched.{searched};
 ghost use Rattle.sums.specs.Searching.{Searching, Inside, env, passes_at, fits_order};
 ghost use Rattle.sums.specs.Seen.{told};
 
-use crate::slots::Held;
+use crate::priced::Priced;
+use crate::site::Site;
 use algebra::Algebra;
 use readings::model::Model;
-
-// What is searched: the slots held at a locus, its readings, and the cost of each allele.
-#[derive(Drop)]
-pub(crate) struct Site<'a, M> {
-    pub(crate) held: &'a Held,
-    pub(crate) model: &'a M,
-    pub(crate) locus: usize,
-    pub(crate) costs: &'a [u16],
-}
 
 impl<M: Model> Site<'_, M> {
     // Whether the reading of a person fits the alleles set so far, where the slot set last is one of its two.
@@ -36,43 +28,35 @@ impl<M: Model> Site<'_, M> {
             _ => true,
         }
     }
-    // Whether the readings of all persons fit the alleles set so far, as far as the slot set last bears on them.
+
+    // Whether the readings of all persons fit the alleles set so far, as far as the slot set last bears on them. The persons are gone through by number,
+    // which is what the model is asked by; so each pair is known to be a person's, and its slots to be below 64.
     fn admits(&self, slot: usize, alleles: &[Option<u8>; 64]) -> bool
         ensures { result ≡ every (passes_at self.now.held.now (M.Model.fitting self.now.model.now self.now.locus) alleles.now slot) (range_with_len 0 self.now.held.now.persons) }
     {
-        for person in 0..self.held.persons {
-            if !self.person_fits(person, slot, alleles) {
-                return false;
-            }
-        }
-        true
+        (0..self.held.persons).all(|person| self.person_fits(person, slot, alleles))
     }
+}
 
-    // The sum over the alleles of the slots from place `at` of the order on.
-    pub(crate) fn search<V: Algebra>(
-        &self,
-        order: &[usize],
-        at: usize,
-        alleles: [Option<u8>; 64],
-    ) -> V
-        requires searching { Searching self.now.held.now (M.Model.fitting self.now.model.now self.now.locus) order.now at alleles }
-        requires inside { Inside order.now (readings_of (told self.now.held.now) (M.Model.classes self.now.model.now self.now.locus) (M.Model.fitting self.now.model.now self.now.locus)) }
-        requires costs_len_bound { length self.now.costs.now ≤ 16 }
-        ensures { result ≡ searched V.Algebra.operations (length self.now.costs.now) (weights V.Algebra.operations self.now.costs.now) (fits_order order.now (readings_of (told self.now.held.now) (M.Model.classes self.now.model.now self.now.locus) (M.Model.fitting self.now.model.now self.now.locus))) (drop at order.now) (env alleles) }
+impl<M: Model> Priced<'_, M> {
+    // The sum over the alleles of the slots, whatever slots had their alleles set before them. The alleles are told by slot and passed by value, so that
+    // nothing has to be put back.
+    pub(crate) fn search<V: Algebra>(&self, slots: &[usize], alleles: [Option<u8>; 64]) -> V
+        requires { (t : ℕ) → In t slots.now → t < 64 }
+        ensures { (done : List ℕ) → Searching self.now.site.now.held.now (M.Model.fitting self.now.site.now.model.now self.now.site.now.locus) done slots.now alleles → Inside (done ++ slots.now) (readings_of (told self.now.site.now.held.now) (M.Model.classes self.now.site.now.model.now self.now.site.now.locus) (M.Model.fitting self.now.site.now.model.now self.now.site.now.locus)) → result ≡ searched V.Algebra.operations (length self.now.costs.now) (weights V.Algebra.operations self.now.costs.now) (fits_order (done ++ slots.now) (readings_of (told self.now.site.now.held.now) (M.Model.classes self.now.site.now.model.now self.now.site.now.locus) (M.Model.fitting self.now.site.now.model.now self.now.site.now.locus))) slots.now (env alleles) }
     {
-        if at >= order.len() {
+        let Some((&slot, rest)) = slots.split_first() else {
             return V::one();
-        }
-        let slot = order[at];
+        };
         let mut total = V::zero();
-        for allele in 0..self.costs.len() {
+        for (allele, cost) in self.costs.iter().enumerate() {
             let mut more = alleles;
+            // An allele is below 16, so the cast loses nothing.
             more[slot] = Some(allele as u8);
-            if !self.admits(slot, &more) {
-                continue;
+            if self.site.admits(slot, &more) {
+                let sum: V = self.search(rest, more);
+                total = total.sum(V::weight(*cost).product(sum));
             }
-            let rest: V = self.search(order, at + 1, more);
-            total = total.sum(V::weight(self.costs[allele]).product(rest));
         }
         total
     }
