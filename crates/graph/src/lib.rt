@@ -1,35 +1,52 @@
 // The founder-allele graph of a locus: the links of all persons whose reading is not silent, laid in a forest.
 #![tactic(auto)]
 
-ghost use Rattle.std.specs.Prelude.{◌≡◌};
-ghost use Rattle.forest.specs.Laid.{laid};
+ghost use Rattle.std.specs.Prelude.{◌≡◌, true, [], ◌∷◌, ◌++◌, if◌then◌else◌, Some, None, Ok};
+ghost use Rattle.forest.specs.Entries.{in_range};
+ghost use Rattle.forest.specs.Laid.{laid, has_room};
 ghost use Rattle.figures.specs.Graph.{Parts, links};
+ghost use Rattle.figures.specs.Locus.{loud};
 ghost use Rattle.figures.specs.View.{readings_of};
 ghost use Rattle.sums.specs.Seen.{told};
 ghost use Rattle.graph.specs.Entries.{entries_of};
 
-use forest::Forest;
+use forest::{Forest, LayFault};
 use readings::model::Model;
-use sums::{Held, is_loud};
+use sums::{Site, is_loud};
+
+// Lays one person more: with the link of its two slots where its reading says something, with none where it is silent.
+fn lay_person<M: Model>(
+    forest: &mut Forest,
+    site: &Site<M>,
+    person: usize,
+    slots: (usize, usize),
+) -> Result<(), LayFault>
+    ensures taken { has_room (laid forest.old) ≡ true → in_range slots ≡ true → result ≡ Ok tt }
+    ensures entry { has_room (laid forest.old) ≡ true → in_range slots ≡ true → laid forest.new ≡ laid forest.old ++ (if loud (M.Model.classes site.now.model.now site.now.locus person) then Some slots else None) ∷ [] }
+{
+    if is_loud(site.model.class(site.locus, person)) {
+        forest.lay(slots)
+    } else {
+        forest.pass()
+    }
+}
 
 // The forest in which every person is laid, in order: with the link of its two slots where its reading says something, with none where it is silent.
-pub fn lay_all<M: Model>(held: &Held, model: &M, locus: usize) -> Forest
-    ensures { laid result ≡ entries_of (told held.now) (M.Model.classes model.now locus) }
+pub fn lay_all<M: Model>(site: &Site<M>) -> Forest
+    ensures { laid result ≡ entries_of (told site.now.held.now) (M.Model.classes site.now.model.now site.now.locus) }
 {
     let mut forest = Forest::new();
-    for person in 0..held.persons {
-        if is_loud(model.class(locus, person)) {
-            forest.lay(held.pairs[person]);
-        } else {
-            forest.pass();
-        }
+    for (person, slots) in site.held.pairs().iter().enumerate() {
+        let laid = lay_person(&mut forest, site, person, *slots);
+        // Nobody is refused: a family has no 65th person and no slot above 63.
+        prove!(laid.is_ok());
     }
     forest
 }
 
 // The number of components of a locus.
-pub fn parts<M: Model>(held: &Held, model: &M, locus: usize) -> usize
-    ensures { Parts held.now.slots (links (readings_of (told held.now) (M.Model.classes model.now locus) (M.Model.fitting model.now locus))) result }
+pub fn parts<M: Model>(site: &Site<M>) -> usize
+    ensures { Parts site.now.held.now.slots (links (readings_of (told site.now.held.now) (M.Model.classes site.now.model.now site.now.locus) (M.Model.fitting site.now.model.now site.now.locus))) result }
 {
-    lay_all(held, model, locus).parts(held.slots)
+    lay_all(site).parts(site.held.slots)
 }

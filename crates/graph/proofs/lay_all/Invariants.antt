@@ -7,4 +7,4 @@ use Rattle.graph.proofs.lay_all.Given as goal
 
 abbrev pub invariant-loop-person : goal.invariant-loop-person
 invariant-loop-person g l =
-    laid l.forest ≡ map (entry_of (told l.held) (g.M.Model.classes l.model l.locus)) (range_with_len 0 l.person)
+    laid l.forest ≡ map (entry_of (told l.site.held.now) (g.M.Model.classes l.site.model.now l.site.locus)) (range_with_len 0 l.person)
