@@ -19,7 +19,7 @@ use readings::dominant::Dominant;
 use readings::model::Model;
 use readings::two_panels::TwoPanels;
 use std::io;
-use sums::{Held, WideLocus, figure};
+use sums::{Held, Site, WideLocus};
 use unanswered::Unanswered;
 
 // What is read at a locus, and the costs of its alleles.
@@ -69,12 +69,12 @@ fn bits_of(turned: Option<usize>) -> [Meiosis; 64] {
     bits
 }
 
-fn figures_of<M: Model>(held: &Held, model: &M, costs: &[u16]) -> Result<Figures, WideLocus> {
+fn figures_of<M: Model>(site: &Site<M>, costs: &[u16]) -> Result<Figures, WideLocus> {
     Ok(Figures {
-        count: figure(held, model, 0, costs)?,
-        least: figure(held, model, 0, costs)?,
-        best: figure(held, model, 0, costs)?,
-        parts: parts(held, model, 0),
+        count: site.figure(costs)?,
+        least: site.figure(costs)?,
+        best: site.figure(costs)?,
+        parts: parts(site),
     })
 }
 
@@ -84,7 +84,13 @@ fn worked_out(
     reading: &Reading,
 ) -> Result<Figures, Unanswered> {
     let held = Held::of(&family?, &bits_of(turned));
-    Ok(figures_of(&held, &reading.model(), reading.costs)?)
+    let model = reading.model();
+    let site = Site {
+        held: &held,
+        model: &model,
+        locus: 0,
+    };
+    Ok(figures_of(&site, reading.costs)?)
 }
 
 fn print_figures(
