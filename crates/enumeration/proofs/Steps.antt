@@ -4,7 +4,6 @@ use Rattle.std.proofs.Common.{◌≡◌, ℕ, suc, ◌+◌, ◌-◌, ◌*◌, �
 use Rattle.std.specs.Bool.{MatchBool}
 use Rattle.std.specs.List.{range_with_len, enumerate_from, AllWithin, HoldsAt}
 use Rattle.std.proofs.lemmas.Bool.Decides.{nat_tests}
-use Rattle.std.proofs.lemmas.Grind.{common_steps}
 use Rattle.std.proofs.lemmas.Bool.{cond-true}
 use Rattle.std.proofs.lemmas.List.{take_at, get_or_default}
 use Rattle.std.proofs.lemmas.List.FromFn.{length-enumerate_from, get_or-enumerate_from}
@@ -73,10 +72,6 @@ module _ (held : List (ℕ × ℕ)) where
     fits_each false (k, l, h) =
         let l' : k < length held = omega (arith, length-enumerate_from 0 held) in
         sym (fits_all_not held class fit ρ k l' (subst (fits_at false) (person_at k (0, (0, 0)) l') (h (0, (0, 0)))))
-
--- without its last allele
-pub without_last : (front : List ℕ) (a : ℕ) (longer : List ℕ) → longer ≡ front ++ a ∷ [] → take (length longer - 1) longer ≡ front
-without_last front a longer e = grind (arith, common_steps)
 
 -- the slots of a family's persons, in front of what the memory holds behind them
 pub front_held : (f : Family) (bits : List Meiosis) (held rest : List (ℕ × ℕ)) → held ≡ slots_of (persons_of f) bits ++ rest → take (length (persons_of f)) held ≡ slots_of (persons_of f) bits
