@@ -1,9 +1,10 @@
 -- The sum over all assignments, slot by slot.
 -- Assumes nothing.
-use Rattle.std.proofs.Common.{◌≡◌, ℕ, suc, ◌+◌, ◌-◌, ◌*◌, ◌<◌, ◌≤◌, Bool, true, false, leb, List, [], ◌∷◌, ◌++◌, map, length, get_or, take, Some, None, sym, ap, ◌∙◌, ap₂, subst, zero-add, append_assoc, length-append, arith}
+use Rattle.std.proofs.Common.{◌≡◌, ℕ, suc, ◌+◌, ◌-◌, ◌*◌, ◌<◌, ◌≤◌, Bool, true, false, List, [], ◌∷◌, ◌++◌, map, length, get_or, take, Some, None, sym, ap, ◌∙◌, ap₂, subst, zero-add, append_assoc, length-append, arith}
 use Rattle.std.specs.Bool.{MatchBool}
 use Rattle.std.specs.List.{range_with_len, enumerate_from, AllWithin, HoldsAt}
-use Rattle.std.proofs.lemmas.Bool.{and_from, le-leb, cond-true}
+use Rattle.std.proofs.lemmas.Bool.Decides.{nat_tests}
+use Rattle.std.proofs.lemmas.Bool.{cond-true}
 use Rattle.std.proofs.lemmas.List.{take_at, get_or_default}
 use Rattle.std.proofs.lemmas.List.FromFn.{length-enumerate_from, get_or-enumerate_from}
 use Rattle.algebra.specs.Semiring.{Ops, Laws}
@@ -72,11 +73,6 @@ module _ (held : List (ℕ × ℕ)) where
         let l' : k < length held = omega (arith, length-enumerate_from 0 held) in
         sym (fits_all_not held class fit ρ k l' (subst (fits_at false) (person_at k (0, (0, 0)) l') (h (0, (0, 0)))))
 
--- without its last allele
-pub without_last : (front : List ℕ) (a : ℕ) (longer : List ℕ) → longer ≡ front ++ a ∷ [] → take (length longer - 1) longer ≡ front
-without_last front a longer e =
-    ap (take (length longer - 1)) e ∙ take_at front (a ∷ []) (length longer - 1) (omega (arith, ap length e, length-append front (a ∷ [])))
-
 -- the slots of a family's persons, in front of what the memory holds behind them
 pub front_held : (f : Family) (bits : List Meiosis) (held rest : List (ℕ × ℕ)) → held ≡ slots_of (persons_of f) bits ++ rest → take (length (persons_of f)) held ≡ slots_of (persons_of f) bits
 front_held f bits held rest e =
@@ -86,7 +82,7 @@ front_held f bits held rest e =
 pub answered : {V : Type 0} (o : Ops V) → Laws o → (persons : List Person) (bits : List Meiosis) (class : ℕ → Class) (fits : ℕ → ℕ → ℕ → Bool) (costs : List ℕ) (slots : ℕ) (held : List (ℕ × ℕ)) (x : V) → slots ≡ 2 * founders_in persons → slots ≤ 8 → length costs ≤ 4 → held ≡ slots_of persons bits → x ≡ sum_after o (weights o costs) (readings_of held class fits) (length costs) (slots - 0) [] → Some x ≡ answer o persons bits class fits costs
 answered o l persons bits class fits costs slots held x e few least h s =
     let L = locus_of persons bits (length costs) class fits in
-    let small-enough : small persons costs ≡ true = and_from (leb (2 * founders_in persons) 8) (leb (length costs) 4) (le-leb _ _ (omega arith)) (le-leb _ _ least) in
+    let small-enough : small persons costs ≡ true = grind (arith, nat_tests) in
     let n : slots - 0 ≡ 2 * founders_in persons = omega arith in
     ap Some (s ∙ ap₂ (λ hs m. sum_after o (weights o costs) (readings_of hs class fits) (length costs) m []) h n ∙ sym (fold_kept l.sums (fits_all L.readings) (product o (weights o costs)) (assignments L.slots L.alleles)))
     ∙ sym (cond-true (small persons costs) _ None small-enough)

@@ -1,6 +1,6 @@
 -- A component that has a link and only named readings has at most two fitting assignments: one allele settles all others.
 -- Assumes nothing.
-use Rattle.std.proofs.Common.{◌≡◌, ℕ, ◌<◌, ◌≤◌, min, max, true, cond, eqb, ◌⊎◌, List, [], ◌∷◌, length, sym, refl, ◌∙◌, subst, ap₂, inl, inr, arith}
+use Rattle.std.proofs.Common.{◌≡◌, ℕ, ◌≤◌, min, max, true, cond, eqb, List, [], ◌∷◌, length, sym, refl, ◌∙◌, subst, ap₂, inl, inr, arith}
 use Rattle.std.proofs.lemmas.Bool.{and_parts, cases_lt, cond-true, cond-false, eq-eqb, ne_eqb, eqb-true, false≢true}
 use Rattle.readings.specs.declared.class.Class.{Class}
 use Rattle.readings.specs.declared.class.Class.TheVariants.{Silent, Named, Several}
@@ -101,11 +101,8 @@ module _ (L : Locus) (sound : Sound L) (s : ℕ) (c : List ℕ) (comp : Componen
       (once_kept (fits_own c L.readings) (assignments (length c) L.alleles) (once_assignments (length c) L.alleles))
       (λ σ j.
       let t = paired r i (allele_at c σ r.ends.0) (allele_at c σ r.ends.1) (fit_of σ (kept_in (fits_own c L.readings) σ (assignments (length c) L.alleles) j).0 r i) in
-      one_of (allele_at c σ r.ends.0) (allele_at c σ r.ends.1) m.0 m.1 t.0 t.1 (cases_lt (allele_at c σ r.ends.0) (allele_at c σ r.ends.1)))
-    where
-      one_of : (x y a b : ℕ) → min x y ≡ a → max x y ≡ b → (x < y) ⊎ (y ≤ x) → (z : ℕ) × In z (a ∷ (b ∷ [])) × (x ≡ z)
-      one_of x y a b p q (inl h) = (a, inl refl, omega (arith, p))
-      one_of x y a b p q (inr h) = (b, inr (inl refl), omega (arith, q))
+      elim (cases_lt (allele_at c σ r.ends.0) (allele_at c σ r.ends.1))
+      [ inl h ↦ (m.0, inl refl, omega (arith, t.0)) | inr h ↦ (m.1, inr (inl refl), omega (arith, t.1)) ])
 
 pub two_at_most : TwoAtMost
 two_at_most L sound s c comp r i named = two L sound s c comp named r i

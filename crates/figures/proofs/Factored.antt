@@ -1,6 +1,6 @@
 -- The figure of a locus is the product of the sums of its components.
 -- Assumes nothing.
-use Rattle.std.proofs.Common.{◌≡◌, ℕ, Bool, true, false, cond, ◌&&◌, ◌⊎◌, List, [], ◌∷◌, ◌++◌, sym, refl, ap, ◌∙◌, subst, ap₂, inl, inr, arith}
+use Rattle.std.proofs.Common.{◌≡◌, ℕ, Bool, true, false, cond, ◌&&◌, List, [], ◌∷◌, ◌++◌, sym, refl, ap, ◌∙◌, subst, ap₂, inl, inr, arith}
 use Rattle.std.specs.List.{range_with_len, flat_map}
 use Rattle.std.proofs.lemmas.Bool.{and_parts, and_from, cases_Bool, true≢false}
 use Rattle.algebra.specs.Semiring.{Ops, Laws}
@@ -87,13 +87,13 @@ module _ {V : Type 0} (o : Ops V) (l : Laws o) (w : ℕ → V) (L : Locus) (soun
           (λ c i. every_from fit (own c L.readings) (λ r j. every_at fit r L.readings t (own_in c L.readings r j).0))
 
       backward : every (λ c. every fit (own c L.readings)) cs ≡ true → every fit L.readings ≡ true
-      backward t = every_from fit L.readings (λ r i. go r i (cases_Bool (loud r.class)))
-        where
-          go : (r : Reading) → In r L.readings → (loud r.class ≡ true) ⊎ (loud r.class ≡ false) → fit r ≡ true
-          go r i (inr e) = sound.silent r (ρ r.ends.0) (ρ r.ends.1) i (not_loud r.class e)
-          go r i (inl e) =
-              let q = joined_in (λ c. c) r.ends.0 cs (comps.all r.ends.0 (sound.within r i).0) in
-              every_at fit r (own q.0 L.readings) (every_at (λ c. every fit (own c L.readings)) q.0 cs t q.1) (in_own q.0 L.readings r i e q.2)
+      backward t =
+          every_from fit L.readings
+          (λ r i. elim (cases_Bool (loud r.class)) [
+            | inl e ↦ let q = joined_in (λ c. c) r.ends.0 cs (comps.all r.ends.0 (sound.within r i).0) in
+                every_at fit r (own q.0 L.readings) (every_at (λ c. every fit (own c L.readings)) q.0 cs t q.1) (in_own q.0 L.readings r i e q.2)
+            | inr e ↦ sound.silent r (ρ r.ends.0) (ρ r.ends.1) i (not_loud r.class e)
+          ])
 
   term_split : (ρ : ℕ → ℕ) → term_of o w L.readings (range_with_len 0 L.slots) ρ ≡ fold o.one o.product cs (λ c. term_of o w (own c L.readings) c ρ)
   term_split ρ =

@@ -1,10 +1,10 @@
 -- The sum over listed assignments of some slots is the sum over their alleles, one slot after the other.
 -- Assumes nothing.
-use Rattle.std.proofs.Common.{◌≡◌, ℕ, zero, suc, ◌+◌, ◌<◌, Bool, true, cond, ◌&&◌, eqb, ◌⊎◌, List, [], ◌∷◌, map, length, get_or, sym, refl, ap, ◌∙◌, ap₂, inl, inr, arith}
+use Rattle.std.proofs.Common.{◌≡◌, ℕ, zero, suc, ◌+◌, ◌<◌, Bool, true, cond, ◌&&◌, eqb, List, [], ◌∷◌, map, length, get_or, sym, refl, ap, ◌∙◌, ap₂, subst, inl, inr, arith}
 use mathlib.Core.Path.{fun_ext}
 use Rattle.std.specs.List.{range_with_len}
 use Rattle.std.proofs.lemmas.List.FromFn.{length-range_with_len, fill_by_all}
-use Rattle.std.proofs.lemmas.Bool.{cases_eq, eq-eqb, ne_eqb, cond-true, cond-false}
+use Rattle.std.proofs.lemmas.Bool.{eq-eqb, ne_eqb, cond-true, cond-false}
 use Rattle.algebra.specs.Semiring.{Ops, Laws}
 use Rattle.figures.specs.Lists.{fold, every, In, Once}
 use Rattle.figures.specs.Assignments.{assignments}
@@ -31,14 +31,12 @@ place_outside (s ∷ ss) (a ∷ σ) ρ t out =
 pub place_inside : (ss σ : List ℕ) (ρ : ℕ → ℕ) → Once ss → length σ ≡ length ss → (t : ℕ) → In t ss → place ss σ ρ t ≡ allele_at ss σ t
 place_inside [] σ ρ o e t i = elim i [ ]
 place_inside (s ∷ ss) [] ρ o e t i = absurd (omega (arith, e))
-place_inside (s ∷ ss) (a ∷ σ) ρ o e t i = go (place_inside ss σ (update ρ s a) o.1 (omega (arith, e))) (cases_eq t s) i
-  where
-    go : ((u : ℕ) → In u ss → place ss σ (update ρ s a) u ≡ allele_at ss σ u) → (t ≡ s) ⊎ (t ≡ s → ⊥) → (t ≡ s) ⊎ In t ss → place ss σ (update ρ s a) t ≡ cond (eqb t s) a (allele_at ss σ t)
-    go ih (inl q) j =
-        ap (place ss σ (update ρ s a)) q ∙ place_outside ss σ (update ρ s a) s o.0 ∙ update_same ρ s a
-        ∙ sym (cond-true (eqb t s) a (allele_at ss σ t) (eq-eqb t s q))
-    go ih (inr ne) (inl q) = absurd (ne q)
-    go ih (inr ne) (inr j) = ih t j ∙ sym (cond-false (eqb t s) a (allele_at ss σ t) (ne_eqb t s ne))
+place_inside (s ∷ ss) (a ∷ σ) ρ o e t (inl q) =
+    ap (place ss σ (update ρ s a)) q ∙ place_outside ss σ (update ρ s a) s o.0 ∙ update_same ρ s a
+    ∙ sym (cond-true (eqb t s) a (allele_at ss σ t) (eq-eqb t s q))
+place_inside (s ∷ ss) (a ∷ σ) ρ o e t (inr i) =
+    place_inside ss σ (update ρ s a) o.1 (omega (arith, e)) t i
+    ∙ sym (cond-false (eqb t s) a (allele_at ss σ t) (ne_eqb t s (λ q. o.0 (subst (λ u. In u ss) q i))))
 
 -- the product of an assignment is that of its slots
 pub product_placed : {V : Type 0} (o : Ops V) (w : ℕ → V) (ss σ : List ℕ) (ρ : ℕ → ℕ) → Once ss → length σ ≡ length ss → product o w σ ≡ fold o.one o.product ss (λ s. w (place ss σ ρ s))

@@ -1,6 +1,6 @@
 -- Sums over the alleles of some slots, one slot after the other: in which order does not matter, and what depends on other slots comes out.
 -- Assumes nothing.
-use Rattle.std.proofs.Common.{◌≡◌, ℕ, cond, eqb, ◌⊎◌, List, [], ◌∷◌, ◌++◌, sym, refl, ap, ◌∙◌, ap₂, inl, inr, arith}
+use Rattle.std.proofs.Common.{◌≡◌, ℕ, cond, eqb, List, [], ◌∷◌, ◌++◌, sym, refl, ap, ◌∙◌, ap₂, inl, inr, arith}
 use mathlib.Core.Path.{fun_ext}
 use Rattle.std.specs.List.{range_with_len, flat_map}
 use Rattle.std.proofs.lemmas.Bool.{cases_eq, eq-eqb, ne_eqb, cond-true, cond-false}
@@ -44,12 +44,11 @@ module _ {V : Type 0} (o : Ops V) (k : ℕ) where
   pub sum_ignores : (s : ℕ) (ss : List ℕ) (F : (ℕ → ℕ) → V) → ((σ : ℕ → ℕ) (a : ℕ) → F (update σ s a) ≡ F σ) → (ρ : ℕ → ℕ) (a : ℕ) → sum_slots ss F (update ρ s a) ≡ sum_slots ss F ρ
   sum_ignores s [] F e ρ a = e ρ a
   sum_ignores s (t ∷ ts) F e ρ a =
-      fold_cong o.zero o.sum (range_with_len 0 k) _ _ (λ b. go b (λ σ. sum_ignores s ts F e σ a) (cases_eq s t))
-    where
-      go : (b : ℕ) → ((σ : ℕ → ℕ) → sum_slots ts F (update σ s a) ≡ sum_slots ts F σ) → (s ≡ t) ⊎ (s ≡ t → ⊥) → sum_slots ts F (update (update ρ s a) t b) ≡ sum_slots ts F (update ρ t b)
-      go b ih (inl q) =
-          ap (λ u. sum_slots ts F (update (update ρ u a) t b)) q ∙ ap (sum_slots ts F) (update_twice ρ t a b)
-      go b ih (inr ne) = ap (sum_slots ts F) (update_comm ρ s t a b ne) ∙ ih (update ρ t b)
+      fold_cong o.zero o.sum (range_with_len 0 k) _ _
+      (λ b. elim (cases_eq s t) [
+        | inl q ↦ ap (λ u. sum_slots ts F (update (update ρ u a) t b)) q ∙ ap (sum_slots ts F) (update_twice ρ t a b)
+        | inr ne ↦ ap (sum_slots ts F) (update_comm ρ s t a b ne) ∙ sum_ignores s ts F e (update ρ t b) a
+      ])
 
   -- only assignments that leave slot s alone are summed over, where it is not listed
   pub sum_at : (s : ℕ) (ss : List ℕ) → (In s ss → ⊥) → (F G : (ℕ → ℕ) → V) (ρ : ℕ → ℕ) → ((σ : ℕ → ℕ) → σ s ≡ ρ s → F σ ≡ G σ) → sum_slots ss F ρ ≡ sum_slots ss G ρ
@@ -78,14 +77,13 @@ Disjoint (c ∷ cs) = ((s : ℕ) → In s c → In s (flat_map (λ d. d) cs) →
 
 module _ {V : Type 0} (o : Ops V) (l : Laws o) (k : ℕ) where
   sum_swap : (s t : ℕ) (ss : List ℕ) (F : (ℕ → ℕ) → V) (ρ : ℕ → ℕ) → sum_slots o k (s ∷ (t ∷ ss)) F ρ ≡ sum_slots o k (t ∷ (s ∷ ss)) F ρ
-  sum_swap s t ss F ρ = go (cases_eq s t)
-    where
-      go : (s ≡ t) ⊎ (s ≡ t → ⊥) → sum_slots o k (s ∷ (t ∷ ss)) F ρ ≡ sum_slots o k (t ∷ (s ∷ ss)) F ρ
-      go (inl e) = ap₂ (λ a b. sum_slots o k (a ∷ (b ∷ ss)) F ρ) e (sym e)
-      go (inr ne) =
-          fold_swap l.sums (range_with_len 0 k) (range_with_len 0 k) (λ a b. sum_slots o k ss F (update (update ρ s a) t b))
-          ∙ fold_cong o.zero o.sum (range_with_len 0 k) _ _
-          (λ b. fold_cong o.zero o.sum (range_with_len 0 k) _ _ (λ a. ap (sum_slots o k ss F) (update_comm ρ s t a b ne)))
+  sum_swap s t ss F ρ =
+      elim (cases_eq s t) [
+        | inl e ↦ ap₂ (λ a b. sum_slots o k (a ∷ (b ∷ ss)) F ρ) e (sym e)
+        | inr ne ↦ fold_swap l.sums (range_with_len 0 k) (range_with_len 0 k) (λ a b. sum_slots o k ss F (update (update ρ s a) t b))
+            ∙ fold_cong o.zero o.sum (range_with_len 0 k) _ _
+            (λ b. fold_cong o.zero o.sum (range_with_len 0 k) _ _ (λ a. ap (sum_slots o k ss F) (update_comm ρ s t a b ne)))
+      ]
 
   pub sum_perm : {ss ts : List ℕ} → Perm ss ts → (F : (ℕ → ℕ) → V) (ρ : ℕ → ℕ) → sum_slots o k ss F ρ ≡ sum_slots o k ts F ρ
   sum_perm done F ρ = refl

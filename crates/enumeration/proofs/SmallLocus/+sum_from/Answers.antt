@@ -1,11 +1,11 @@
-use Rattle.std.proofs.Common.{◌≡◌, ℕ, List, [], ◌∷◌, ◌++◌, length, sym, ap, ◌∙◌, ap₂, arith}
+use Rattle.std.proofs.Common.{◌≡◌, [], ◌∷◌, ◌++◌, length, sym, ap, ◌∙◌, ap₂, arith}
+use Rattle.std.proofs.lemmas.Grind.{common_steps}
 use Rattle.std.specs.List.{range_with_len}
-use Rattle.arrayvec.specs.ArrayVec.{ArrayVec}
 use Rattle.figures.specs.Figure.{weights}
 use Rattle.figures.specs.Lists.{fold}
 use Rattle.figures.specs.View.{readings_of}
 use Rattle.figures.proofs.Folds.{fold_counting_more}
-use Rattle.enumeration.proofs.Steps.{sum_behind, behind_more, without_last}
+use Rattle.enumeration.proofs.Steps.{sum_behind, behind_more}
 use Rattle.enumeration.proofs.SmallLocus.+sum_from.Goals as goal
 
 pub loop-allele-preserved : goal.loop-allele-preserved
@@ -16,14 +16,12 @@ loop-allele-preserved g t c =
     let behind = sum_behind o (weights o S.costs.now) rs (length S.costs.now) S.slots in
     let front = c.args.alleles.now.items in
     let a = c.loop-allele.allele in
-    let longer : c.push.new.self.items ≡ front ++ a ∷ [] = c.push.ensures.items ∙ ap (λ v. v.items ++ a ∷ []) c.loop-allele.invariant.unchanged in
-    let kept : c.sum_from.new.alleles.items ≡ front ++ a ∷ [] = ap (λ v. v.items) c.sum_from.ensures.unchanged ∙ longer in
-    let holding : List ℕ → ArrayVec ℕ = λ xs. record { items = xs } in
+    let longer : c.push.new.self.items ≡ front ++ a ∷ [] = c.push.ensures.items ∙ ap (λ xs. xs ++ a ∷ []) c.loop-allele.invariant.unchanged in
     record {
       summed =
           c.sum-total.ensures ∙ ap₂ o.sum c.loop-allele.invariant.summed (c.sum_from.ensures.value ∙ ap behind longer)
           ∙ sym (fold_counting_more g.met.V.Algebra.laws.sums a (λ b. behind (front ++ b ∷ [])));
-      unchanged = ap holding (c.pop.ensures.rest ∙ without_last front a _ kept);
+      unchanged = grind (arith, common_steps);
     }
 
 pub returns-clause-value : goal.returns-clause-value

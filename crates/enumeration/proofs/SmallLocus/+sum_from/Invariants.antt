@@ -17,5 +17,5 @@ invariant-loop-allele g l =
     let sum_with = λ (a : ℕ). sum_behind o (weights o l.self.costs.now) rs (length l.self.costs.now) l.self.slots (l.fn.alleles.items ++ a ∷ []) in
     record {
       summed : l.total ≡ fold o.zero o.sum (range_with_len 0 l.allele) sum_with;
-      unchanged : l.alleles ≡ l.fn.alleles;
+      unchanged : l.alleles.items ≡ l.fn.alleles.items;
     }
