@@ -1,7 +1,7 @@
 -- One person more: what the memory keeps with its tie written behind the others.
 -- Assumes nothing.
 use Rattle.std.proofs.Common.{◌≡◌, ℕ, ◌+◌, ◌<◌, ◌≤◌, min, max, true, ◌⊎◌, List, [], ◌∷◌, ◌++◌, map, reverse, length, get_or, take, set, replicate, Some, None, Option, sym, refl, ap, ◌∙◌, subst, ap₂, inl, inr, arith}
-use Rattle.std.proofs.lemmas.List.{take_more_set, take-set-le, take-take, take-map, map_push, length-map, length-take-le, length-set, get_or-set_same, get_or-set_other, reverse-append}
+use Rattle.std.proofs.lemmas.List.{take_more_set, take-set-le, map_push, length-map, length-take-le, length-set, get_or-set_same, get_or-set_other, reverse-append}
 use Rattle.std.proofs.lemmas.List.Elements.{filter_map-append}
 use Rattle.std.proofs.lemmas.Bool.{cases_order, and_from}
 use Rattle.figures.specs.Lists.{every}
@@ -82,7 +82,3 @@ memory_start parent own = record {
 -- how many persons are laid
 pub persons_laid : (f : Forest) → length (laid f) ≡ f.count
 persons_laid f = let k = f.kept in length-map (take f.count f.ties) entry ∙ length-take-le f.count f.ties (omega arith)
-
--- the entries of the first persons are those laid first
-pub first_laid : (f : Forest) (n : ℕ) → n ≤ f.count → first_entries n f.ties ≡ take n (laid f)
-first_laid f n h = ap (map entry) (sym (take-take n f.count f.ties h)) ∙ sym (take-map entry n (take f.count f.ties))
