@@ -1,4 +1,4 @@
-use Rattle.std.proofs.Common.{◌≡◌, ℕ, ◌<◌, true, length, sym, ◌∙◌, arith}
+use Rattle.std.proofs.Common.{◌≡◌, ℕ, ◌<◌, true, length, sym, refl, ◌∙◌, arith}
 use Rattle.std.proofs.lemmas.Bool.{and_from, lt-ltb, cond-true}
 use Rattle.forest.specs.Entries.{in_range}
 use Rattle.forest.specs.Laid.{laid, links_of, has_room}
@@ -14,7 +14,7 @@ invariant_of-self c =
     let f = c.args.self.now in
     let x = root_name (links_of f) _ c.root-maternal.result (c.root-maternal.ensures.joined, c.root-maternal.ensures.lowest) in
     let y = root_name (links_of f) _ c.root-paternal.result (c.root-paternal.ensures.joined, c.root-paternal.ensures.lowest) in
-    memory_some f (omega arith) c.args.slots c.root-maternal.result c.root-paternal.result _ _ (range_of c.args.slots (omega arith) (omega arith)) x y (omega arith) (omega arith)
+    memory_some f (omega arith) c.args.slots _ c.root-maternal.result c.root-paternal.result _ _ (range_of c.args.slots (omega arith) (omega arith)) x y (omega arith) (omega arith) refl (omega arith)
 
 pub returns-clause-answer : goal.returns-clause-answer
 returns-clause-answer c =
