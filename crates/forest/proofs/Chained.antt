@@ -8,7 +8,7 @@ use Rattle.figures.proofs.Members.{in_left, in_right, in_append}
 use Rattle.figures.proofs.Names.{name, name_le, name_chain, chain_name}
 use Rattle.forest.specs.Entries.{Root, Tells}
 
-pub chain_over : {ls ms : List (ℕ × ℕ)} {s t : ℕ} → ((l : ℕ × ℕ) → In l ls → In l ms) → Chain ls s t → Chain ms s t
+chain_over : {ls ms : List (ℕ × ℕ)} {s t : ℕ} → ((l : ℕ × ℕ) → In l ls → In l ms) → Chain ls s t → Chain ms s t
 chain_over f same = same
 chain_over f (link i) = link (f _ i)
 chain_over f (back c) = back (chain_over f c)
@@ -28,10 +28,10 @@ reverse_in l (m ∷ ls) i = go (reverse_in l ls) (in_append l (reverse ls) (m �
     go f (inr (inl e)) = inl e
     go f (inr (inr j)) = elim j [ ]
 
-pub chain_reversed : (ls : List (ℕ × ℕ)) {s t : ℕ} → Chain ls s t → Chain (reverse ls) s t
+chain_reversed : (ls : List (ℕ × ℕ)) {s t : ℕ} → Chain ls s t → Chain (reverse ls) s t
 chain_reversed ls c = chain_over (λ l. in_reverse l ls) c
 
-pub reversed_chain : (ls : List (ℕ × ℕ)) {s t : ℕ} → Chain (reverse ls) s t → Chain ls s t
+reversed_chain : (ls : List (ℕ × ℕ)) {s t : ℕ} → Chain (reverse ls) s t → Chain ls s t
 reversed_chain ls c = chain_over (λ l. reverse_in l ls) c
 
 -- the name of a slot, by the links with the last one first, is its root

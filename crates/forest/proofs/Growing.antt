@@ -1,7 +1,7 @@
 -- One person more: what the memory keeps with its tie written behind the others.
 -- Assumes nothing.
 use Rattle.std.proofs.Common.{◌≡◌, ℕ, ◌+◌, ◌<◌, ◌≤◌, min, max, true, ◌⊎◌, List, [], ◌∷◌, ◌++◌, map, reverse, length, get_or, take, set, replicate, Some, None, Option, sym, refl, ap, ◌∙◌, subst, ap₂, inl, inr, arith}
-use Rattle.std.proofs.lemmas.List.{take_more_set, take-set-le, take-take, take-map, map_push, length-map, length-take-le, length-set, get_or-set_same, get_or-set_other, reverse-append}
+use Rattle.std.proofs.lemmas.List.{take_more_set, take-set-le, map_push, length-map, length-take-le, length-set, get_or-set_same, get_or-set_other, reverse-append}
 use Rattle.std.proofs.lemmas.List.Elements.{filter_map-append}
 use Rattle.std.proofs.lemmas.Bool.{cases_order, and_from}
 use Rattle.figures.specs.Lists.{every}
@@ -60,16 +60,13 @@ memory_none f room =
     memory_more f None room f.parent (newest (laid f)) (newest_none (laid f)) f.kept.range f.grown (λ u e. cc)
 
 -- one person more who links two slots: the higher of their roots is hung under the lower
-pub memory_some : (f : Forest) → f.count < 64 → (l : ℕ × ℕ) (x y high low : ℕ) → in_range l ≡ true → x ≡ name (newest (laid f)) l.0 → y ≡ name (newest (laid f)) l.1 → high ≡ max x y → low ≡ min x y → Memory (set f.parent high low) (set f.ties f.count (Some (record { slots = l; hung = high }))) (f.count + 1)
+pub memory_some : (f : Forest) → f.count < 64 → (l : ℕ × ℕ) (t : Tie) (x y high low : ℕ) → in_range l ≡ true → x ≡ name (newest (laid f)) l.0 → y ≡ name (newest (laid f)) l.1 → high ≡ max x y → low ≡ min x y → t.slots ≡ l → t.hung ≡ max x y → Memory (set f.parent high low) (set f.ties f.count (Some t)) (f.count + 1)
 unfolding parents
-memory_some f room l x y high low range p q up down =
+memory_some f room l t x y high low range p q up down slots hung =
     let ls = newest (laid f) in
-    let top : high ≡ max (name ls l.0) (name ls l.1) = up ∙ ap₂ max p q in
-    let bottom : low ≡ min (name ls l.0) (name ls l.1) = down ∙ ap₂ min p q in
-    let tie : Tie = record { slots = l; hung = high } in
-    memory_more f (Some tie) room (set f.parent high low) (l ∷ ls) (newest_some (laid f) l) (and_from (in_range l) (every in_range ls) range f.kept.range)
-    (ap₂ (set f.parent) top bottom ∙ ap (λ ps. set ps (max (name ls l.0) (name ls l.1)) (min (name ls l.0) (name ls l.1))) f.grown)
-    (λ u e. let same : tie ≡ u = cc in subst (λ (v : Tie). v.hung ≡ hung_by ls v.slots) same top)
+    memory_more f (Some t) room (set f.parent high low) (l ∷ ls) (newest_some (laid f) t.slots ∙ ap (λ k. k ∷ ls) slots) (and_from (in_range l) (every in_range ls) range f.kept.range)
+    (ap₂ (set f.parent) (up ∙ ap₂ max p q) (down ∙ ap₂ min p q) ∙ ap (λ ps. set ps (max (name ls l.0) (name ls l.1)) (min (name ls l.0) (name ls l.1))) f.grown)
+    (λ u e. let same : t ≡ u = cc in subst (λ (v : Tie). v.hung ≡ hung_by ls v.slots) same (hung ∙ ap₂ max p q ∙ ap (hung_by ls) (sym slots)))
 
 -- nobody laid
 pub memory_start : (parent : List ℕ) → parent ≡ parents [] → Memory parent (replicate 64 None) 0
@@ -82,7 +79,3 @@ memory_start parent own = record {
 -- how many persons are laid
 pub persons_laid : (f : Forest) → length (laid f) ≡ f.count
 persons_laid f = let k = f.kept in length-map (take f.count f.ties) entry ∙ length-take-le f.count f.ties (omega arith)
-
--- the entries of the first persons are those laid first
-pub first_laid : (f : Forest) (n : ℕ) → n ≤ f.count → first_entries n f.ties ≡ take n (laid f)
-first_laid f n h = ap (map entry) (sym (take-take n f.count f.ties h)) ∙ sym (take-map entry n (take f.count f.ties))
