@@ -29,7 +29,7 @@ pub fn figure_by_enumeration<V: Algebra, M: Model>(
     locus: usize,
     costs: &[u16],
 ) -> Option<V>
-    ensures { result ≡ answer V.Algebra.operations (persons_of family.now) bits.now (M.Model.classes model.now locus) (M.Model.fitting model.now locus) costs.now }
+    ensures { result ≡ answer V.operations (persons_of family.now) bits.now (M.classes model.now locus) (M.fitting model.now locus) costs.now }
 {
     let slots = family.slot_count();
     if slots > MOST_SLOTS || costs.len() > MOST_ALLELES {
@@ -65,7 +65,7 @@ impl<M: Model> SmallLocus<'_, M> {
     // The sum over the assignments that begin with the alleles given.
     fn sum_from<V: Algebra>(&self, alleles: &mut ArrayVec<u8, MOST_SLOTS>) -> V
         requires { array_vec_len alleles.old ≤ self.now.slots }
-        ensures value { result ≡ sum_after V.Algebra.operations (weights V.Algebra.operations self.now.costs.now) (readings_of self.now.held.now (M.Model.classes self.now.model.now self.now.locus) (M.Model.fitting self.now.model.now self.now.locus)) (length self.now.costs.now) (self.now.slots - array_vec_len alleles.old) alleles.old.items }
+        ensures value { result ≡ sum_after V.operations (weights V.operations self.now.costs.now) (readings_of self.now.held.now (M.classes self.now.model.now self.now.locus) (M.fitting self.now.model.now self.now.locus)) (length self.now.costs.now) (self.now.slots - array_vec_len alleles.old) alleles.old.items }
         ensures unchanged { alleles.new ≡ alleles.old }
     {
         if alleles.len() == self.slots {
@@ -83,7 +83,7 @@ impl<M: Model> SmallLocus<'_, M> {
     // The product of an assignment, or zero where it breaks a reading.
     fn term<V: Algebra>(&self, alleles: &[u8]) -> V
         requires { length alleles.now ≡ self.now.slots }
-        ensures { result ≡ added V.Algebra.operations (weights V.Algebra.operations self.now.costs.now) (readings_of self.now.held.now (M.Model.classes self.now.model.now self.now.locus) (M.Model.fitting self.now.model.now self.now.locus)) alleles.now }
+        ensures { result ≡ added V.operations (weights V.operations self.now.costs.now) (readings_of self.now.held.now (M.classes self.now.model.now self.now.locus) (M.fitting self.now.model.now self.now.locus)) alleles.now }
     {
         if self.fits_readings(alleles) {
             self.product(alleles)
@@ -95,7 +95,7 @@ impl<M: Model> SmallLocus<'_, M> {
     // Whether an assignment fits the readings of all persons.
     fn fits_readings(&self, alleles: &[u8]) -> bool
         requires { length alleles.now ≡ self.now.slots }
-        ensures { result ≡ fits_all (readings_of self.now.held.now (M.Model.classes self.now.model.now self.now.locus) (M.Model.fitting self.now.model.now self.now.locus)) alleles.now }
+        ensures { result ≡ fits_all (readings_of self.now.held.now (M.classes self.now.model.now self.now.locus) (M.fitting self.now.model.now self.now.locus)) alleles.now }
     {
         self.held.iter().enumerate().all(|(person, &(maternal, paternal))| {
             self.model
@@ -105,7 +105,7 @@ impl<M: Model> SmallLocus<'_, M> {
 
     // The weights of the alleles of all slots multiplied.
     fn product<V: Algebra>(&self, alleles: &[u8]) -> V
-        ensures { result ≡ product V.Algebra.operations (weights V.Algebra.operations self.now.costs.now) alleles.now }
+        ensures { result ≡ product V.operations (weights V.operations self.now.costs.now) alleles.now }
     {
         alleles.iter().fold(
             V::one(),
@@ -115,7 +115,7 @@ impl<M: Model> SmallLocus<'_, M> {
 
     // The weight of an allele's cost, which is 0 where none is given.
     fn weight<V: Algebra>(&self, allele: u8) -> V
-        ensures { result ≡ weights V.Algebra.operations self.now.costs.now allele }
+        ensures { result ≡ weights V.operations self.now.costs.now allele }
     {
         V::weight(self.costs.get(usize::from(allele)).copied().unwrap_or(0))
     }

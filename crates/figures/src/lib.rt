@@ -17,7 +17,7 @@ pub fn assignments_are_listed() -> u8
 
 // A map that carries one algebra to another carries the figure of every locus.
 pub fn figures_are_carried<V: Algebra, W: Algebra>() -> u8
-    ensures holds { FiguresCarried V.Algebra.operations W.Algebra.operations }
+    ensures holds { FiguresCarried V.operations W.operations }
     ensures value { result ≡ 0 }
 {
     0
@@ -25,7 +25,7 @@ pub fn figures_are_carried<V: Algebra, W: Algebra>() -> u8
 
 // Silencing persons adds to a figure exactly the excess.
 pub fn silencing_adds_the_excess<V: Algebra>() -> u8
-    ensures holds { ExcessAdded V.Algebra.operations }
+    ensures holds { ExcessAdded V.operations }
     ensures value { result ≡ 0 }
 {
     0
@@ -49,7 +49,7 @@ pub fn check_families_hold() -> u8
 
 // The figure of a locus is the product of the sums of its components, and every locus has its components.
 pub fn figures_are_factored<V: Algebra>() -> u8
-    ensures holds { FiguresFactored V.Algebra.operations }
+    ensures holds { FiguresFactored V.operations }
     ensures components { ComponentsStand }
     ensures value { result ≡ 0 }
 {

@@ -22,7 +22,7 @@ fn lay_person<M: Model>(
     slots: (usize, usize),
 ) -> Result<(), LayFault>
     ensures taken { has_room (laid forest.old) ≡ true → in_range slots ≡ true → result ≡ Ok tt }
-    ensures entry { has_room (laid forest.old) ≡ true → in_range slots ≡ true → laid forest.new ≡ laid forest.old ++ (if loud (M.Model.classes site.now.model.now site.now.locus person) then Some slots else None) ∷ [] }
+    ensures entry { has_room (laid forest.old) ≡ true → in_range slots ≡ true → laid forest.new ≡ laid forest.old ++ (if loud (M.classes site.now.model.now site.now.locus person) then Some slots else None) ∷ [] }
 {
     if is_loud(site.model.class(site.locus, person)) {
         forest.lay(slots)
@@ -33,7 +33,7 @@ fn lay_person<M: Model>(
 
 // The forest in which every person is laid, in order: with the link of its two slots where its reading says something, with none where it is silent.
 pub fn lay_all<M: Model>(site: &Site<M>) -> Forest
-    ensures { laid result ≡ entries_of (told site.now.held.now) (M.Model.classes site.now.model.now site.now.locus) }
+    ensures { laid result ≡ entries_of (told site.now.held.now) (M.classes site.now.model.now site.now.locus) }
 {
     let mut forest = Forest::new();
     for (person, slots) in site.held.pairs().iter().enumerate() {
@@ -46,7 +46,7 @@ pub fn lay_all<M: Model>(site: &Site<M>) -> Forest
 
 // The number of components of a locus.
 pub fn parts<M: Model>(site: &Site<M>) -> usize
-    ensures { Parts site.now.held.now.slots (links (readings_of (told site.now.held.now) (M.Model.classes site.now.model.now site.now.locus) (M.Model.fitting site.now.model.now site.now.locus))) result }
+    ensures { Parts site.now.held.now.slots (links (readings_of (told site.now.held.now) (M.classes site.now.model.now site.now.locus) (M.fitting site.now.model.now site.now.locus))) result }
 {
     lay_all(site).parts(site.held.slots)
 }

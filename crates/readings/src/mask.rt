@@ -24,11 +24,11 @@ impl<M> Mask<M> {
 }
 
 impl<M: ReadingModel> ReadingModel for Mask<M> {
-    ghost classes = { λ m. masked_class (λ p. slice_index_or m.silenced p false) (M.Model.classes m.below) };
+    ghost classes = { λ m. masked_class (λ p. slice_index_or m.silenced p false) (M.classes m.below) };
 
-    ghost fitting = { λ m. masked_fits (λ p. slice_index_or m.silenced p false) (M.Model.fitting m.below) };
+    ghost fitting = { λ m. masked_fits (λ p. slice_index_or m.silenced p false) (M.fitting m.below) };
 
-    ghost rules = { λ m. masked_rules (λ p. slice_index_or m.silenced p false) (M.Model.classes m.below) (M.Model.fitting m.below) (M.Model.rules m.below) };
+    ghost rules = { λ m. masked_rules (λ p. slice_index_or m.silenced p false) (M.classes m.below) (M.fitting m.below) (M.rules m.below) };
 
     fn class(&self, locus: usize, person: usize) -> Class {
         if self.hides(person) {

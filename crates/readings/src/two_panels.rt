@@ -40,11 +40,11 @@ impl<F, S> TwoPanels<F, S> {
 }
 
 impl<F: ReadingModel, S: ReadingModel> ReadingModel for TwoPanels<F, S> {
-    ghost classes = { λ m. panels_class m.split (F.Model.classes m.first) (S.Model.classes m.second) };
+    ghost classes = { λ m. panels_class m.split (F.classes m.first) (S.classes m.second) };
 
-    ghost fitting = { λ m. panels_fits m.split (F.Model.fitting m.first) (S.Model.fitting m.second) };
+    ghost fitting = { λ m. panels_fits m.split (F.fitting m.first) (S.fitting m.second) };
 
-    ghost rules = { λ m. panels_rules m.split (F.Model.classes m.first) (F.Model.fitting m.first) (S.Model.classes m.second) (S.Model.fitting m.second) (F.Model.rules m.first) (S.Model.rules m.second) };
+    ghost rules = { λ m. panels_rules m.split (F.classes m.first) (F.fitting m.first) (S.classes m.second) (S.fitting m.second) (F.rules m.first) (S.rules m.second) };
 
     fn class(&self, locus: usize, person: usize) -> Class {
         match self.panel(locus) {

@@ -25,7 +25,7 @@ const ALLELES: usize = 16;
 impl<M: Model> Site<'_, M> {
     // Whether a component has a reading of class several.
     fn has_several(&self, found: &Gathered) -> bool
-        ensures { result ≡ several_in self.now.held.now (M.Model.classes self.now.model.now self.now.locus) (items found.now) }
+        ensures { result ≡ several_in self.now.held.now (M.classes self.now.model.now self.now.locus) (items found.now) }
     {
         self.held.pairs().iter().enumerate().any(|(person, (slot, _))| {
             matches!(self.model.class(self.locus, person), Class::Several) && found.contains(*slot)
@@ -36,8 +36,8 @@ impl<M: Model> Site<'_, M> {
     fn narrow<'b>(&'b self, costs: &'b [u16]) -> Result<Priced<'b, M>, WideLocus>
         ensures site { IfOk result (λ p. p.site.now ≡ self.now) }
         ensures costs { IfOk result (λ p. p.costs.now ≡ alleles_of costs.now) }
-        ensures narrow { OnOk result (Wide (seen self.now.held.now (length (alleles_of costs.now)) (M.Model.classes self.now.model.now self.now.locus) (M.Model.fitting self.now.model.now self.now.locus)) → ⊥) }
-        ensures wide { OnErr result (Wide (seen self.now.held.now (length (alleles_of costs.now)) (M.Model.classes self.now.model.now self.now.locus) (M.Model.fitting self.now.model.now self.now.locus))) }
+        ensures narrow { OnOk result (Wide (seen self.now.held.now (length (alleles_of costs.now)) (M.classes self.now.model.now self.now.locus) (M.fitting self.now.model.now self.now.locus)) → ⊥) }
+        ensures wide { OnErr result (Wide (seen self.now.held.now (length (alleles_of costs.now)) (M.classes self.now.model.now self.now.locus) (M.fitting self.now.model.now self.now.locus))) }
         ensures locus { IfErr result (λ e. e.locus ≡ self.now.locus) }
     {
         let priced = Priced {
@@ -53,7 +53,7 @@ impl<M: Model> Site<'_, M> {
     // The figure of the locus by an algebra: refused exactly where the locus is wide, and else the sum, over all assignments of alleles that fit the
     // readings, of the products of their weights. There is one cost for each allele; of more than 16 costs the first 16 count.
     pub fn figure<V: Algebra>(&self, costs: &[u16]) -> Result<V, WideLocus>
-        ensures { Figured V.Algebra.operations (weights V.Algebra.operations (alleles_of costs.now)) (seen self.now.held.now (length (alleles_of costs.now)) (M.Model.classes self.now.model.now self.now.locus) (M.Model.fitting self.now.model.now self.now.locus)) self.now.locus result }
+        ensures { Figured V.operations (weights V.operations (alleles_of costs.now)) (seen self.now.held.now (length (alleles_of costs.now)) (M.classes self.now.model.now self.now.locus) (M.fitting self.now.model.now self.now.locus)) self.now.locus result }
     {
         Ok(self.narrow(costs)?.product())
     }
@@ -61,8 +61,8 @@ impl<M: Model> Site<'_, M> {
     // The figures of the locus by two algebras: refused as one figure is; every map that carries the first algebra to the second carries the first
     // figure to the second.
     pub fn two_figures<V: Algebra, W: Algebra>(&self, costs: &[u16]) -> Result<(V, W), WideLocus>
-        ensures values { FiguredTwice V.Algebra.operations W.Algebra.operations (weights V.Algebra.operations (alleles_of costs.now)) (weights W.Algebra.operations (alleles_of costs.now)) (seen self.now.held.now (length (alleles_of costs.now)) (M.Model.classes self.now.model.now self.now.locus) (M.Model.fitting self.now.model.now self.now.locus)) self.now.locus result }
-        ensures carried { Carried V.Algebra.operations W.Algebra.operations result }
+        ensures values { FiguredTwice V.operations W.operations (weights V.operations (alleles_of costs.now)) (weights W.operations (alleles_of costs.now)) (seen self.now.held.now (length (alleles_of costs.now)) (M.classes self.now.model.now self.now.locus) (M.fitting self.now.model.now self.now.locus)) self.now.locus result }
+        ensures carried { Carried V.operations W.operations result }
     {
         let priced = self.narrow(costs)?;
         Ok((priced.product(), priced.product()))
@@ -72,7 +72,7 @@ impl<M: Model> Site<'_, M> {
 impl<M: Model> Priced<'_, M> {
     // Whether a component is wide. A power that is too large for its type is above what is searched.
     fn is_too_wide(&self, found: &Gathered) -> bool
-        ensures { result ≡ too_wide self.now.site.now.held.now (M.Model.classes self.now.site.now.model.now self.now.site.now.locus) (length self.now.costs.now) (items found.now) }
+        ensures { result ≡ too_wide self.now.site.now.held.now (M.classes self.now.site.now.model.now self.now.site.now.locus) (length self.now.costs.now) (items found.now) }
     {
         // At most 64 slots are gathered, so the cast loses nothing.
         let slots = found.slots().len() as u32;
@@ -86,7 +86,7 @@ impl<M: Model> Priced<'_, M> {
 
     // Whether any component is wide. The slots are the numbers below their count.
     fn is_wide(&self) -> bool
-        ensures { MatchBool result (Wide (seen self.now.site.now.held.now (length self.now.costs.now) (M.Model.classes self.now.site.now.model.now self.now.site.now.locus) (M.Model.fitting self.now.site.now.model.now self.now.site.now.locus))) (Wide (seen self.now.site.now.held.now (length self.now.costs.now) (M.Model.classes self.now.site.now.model.now self.now.site.now.locus) (M.Model.fitting self.now.site.now.model.now self.now.site.now.locus)) → ⊥) }
+        ensures { MatchBool result (Wide (seen self.now.site.now.held.now (length self.now.costs.now) (M.classes self.now.site.now.model.now self.now.site.now.locus) (M.fitting self.now.site.now.model.now self.now.site.now.locus))) (Wide (seen self.now.site.now.held.now (length self.now.costs.now) (M.classes self.now.site.now.model.now self.now.site.now.locus) (M.fitting self.now.site.now.model.now self.now.site.now.locus)) → ⊥) }
     {
         let mut gathered = Gathered::new();
         for slot in 0..self.site.held.slots {
@@ -104,7 +104,7 @@ impl<M: Model> Priced<'_, M> {
 
     // The product of the sums of all components.
     fn product<V: Algebra>(&self) -> V
-        ensures { result ≡ figure_of V.Algebra.operations (weights V.Algebra.operations self.now.costs.now) (seen self.now.site.now.held.now (length self.now.costs.now) (M.Model.classes self.now.site.now.model.now self.now.site.now.locus) (M.Model.fitting self.now.site.now.model.now self.now.site.now.locus)) }
+        ensures { result ≡ figure_of V.operations (weights V.operations self.now.costs.now) (seen self.now.site.now.held.now (length self.now.costs.now) (M.classes self.now.site.now.model.now self.now.site.now.locus) (M.fitting self.now.site.now.model.now self.now.site.now.locus)) }
     {
         let mut total = V::one();
         let mut gathered = Gathered::new();
@@ -123,7 +123,7 @@ impl<M: Model> Priced<'_, M> {
 
 // Through a mask a figure is the unmasked one with the excess of silencing added.
 pub fn masks_add_the_excess<V: Algebra>() -> u8
-    ensures holds { ExcessThroughMask V.Algebra.operations }
+    ensures holds { ExcessThroughMask V.operations }
     ensures value { result ≡ 0 }
 {
     0
@@ -131,7 +131,7 @@ pub fn masks_add_the_excess<V: Algebra>() -> u8
 
 // The locus that any model gives is one for which the theorems about components hold.
 pub fn models_give_sound_loci<M: Model>() -> u8
-    ensures holds { (m : M) (h : Held) (k locus : ℕ) → Sound (seen h k (M.Model.classes m locus) (M.Model.fitting m locus)) }
+    ensures holds { (m : M) (h : Held) (k locus : ℕ) → Sound (seen h k (M.classes m locus) (M.fitting m locus)) }
     ensures value { result ≡ 0 }
 {
     0

@@ -82,7 +82,7 @@ pub fn is_loud(class: Class) -> bool
 impl<M: Model> Site<'_, M> {
     // Gathers all that a link joins to the slot.
     fn reach(&self, slot: usize, found: &mut Gathered)
-        ensures { items found.new ≡ reached (links (readings_of (told self.now.held.now) (M.Model.classes self.now.model.now self.now.locus) (M.Model.fitting self.now.model.now self.now.locus))) slot (items found.old) }
+        ensures { items found.new ≡ reached (links (readings_of (told self.now.held.now) (M.classes self.now.model.now self.now.locus) (M.fitting self.now.model.now self.now.locus))) slot (items found.old) }
     {
         for (person, ends) in self.held.pairs().iter().enumerate() {
             if is_loud(self.model.class(self.locus, person)) {
@@ -94,7 +94,7 @@ impl<M: Model> Site<'_, M> {
     // The component of a slot.
     pub(crate) fn gather(&self, slot: usize) -> Gathered
         requires { slot < self.now.held.now.slots }
-        ensures { Component self.now.held.now.slots (links (readings_of (told self.now.held.now) (M.Model.classes self.now.model.now self.now.locus) (M.Model.fitting self.now.model.now self.now.locus))) slot (items result) }
+        ensures { Component self.now.held.now.slots (links (readings_of (told self.now.held.now) (M.classes self.now.model.now self.now.locus) (M.fitting self.now.model.now self.now.locus))) slot (items result) }
     {
         let mut found = Gathered::new();
         found.push(slot);
