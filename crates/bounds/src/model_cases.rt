@@ -1,4 +1,5 @@
 // Models over models: two panels at the locus where they meet and at the last, and a mask at the last person.
+use pedigree::PERSONS;
 use readings::codominant::Codominant;
 use readings::dominant::Dominant;
 use readings::mask::Mask;
@@ -131,7 +132,7 @@ fn ask_panels(rt: &HostRuntime, split: usize, questions: &[Question<'_>]) -> io:
 }
 
 fn ask_mask(rt: &HostRuntime) -> io::Result<()> {
-    let mut silenced = [false; 64];
+    let mut silenced = [false; PERSONS];
     silenced[0] = true;
     silenced[63] = true;
     let model = Mask {

@@ -12,7 +12,7 @@ ghost use Rattle.enumeration.specs.Answer.{answer, added, sum_after};
 
 use algebra::Algebra;
 use arrayvec::ArrayVec;
-use pedigree::{Family, Meiosis};
+use pedigree::{Family, Meiosis, PERSONS};
 use readings::model::Model;
 
 // What is enumerated: at most this many slots and alleles.
@@ -24,7 +24,7 @@ const MOST_ALLELES: usize = 4;
 // slots or the locus more than 4 alleles.
 pub fn figure_by_enumeration<V: Algebra, M: Model>(
     family: &Family,
-    bits: &[Meiosis; 64],
+    bits: &[Meiosis; PERSONS],
     model: &M,
     locus: usize,
     costs: &[u16],

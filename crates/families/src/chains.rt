@@ -1,6 +1,6 @@
 // Families of founders in a row, and of children each of two neighbours in it.
 use crate::cases::Reader;
-use pedigree::{Family, FamilyBuilder, FamilyFault};
+use pedigree::{Family, FamilyBuilder, FamilyFault, PERSONS};
 
 // A row of founders and its children, with the byte that is read of the first founders and of every child.
 pub struct Chain {
@@ -99,8 +99,8 @@ pub(crate) fn chained(chain: &Chain) -> Result<Family, FamilyFault> {
 }
 
 // The bytes of its persons.
-pub(crate) fn bytes_of(chain: &Chain) -> [u8; 64] {
-    let mut bytes = [255; 64];
+pub(crate) fn bytes_of(chain: &Chain) -> [u8; PERSONS] {
+    let mut bytes = [255; PERSONS];
     for (person, byte) in bytes.iter_mut().enumerate() {
         if person < chain.founders_read || person >= chain.founders {
             *byte = chain.byte;

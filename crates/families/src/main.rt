@@ -13,7 +13,7 @@ use chains::{CHAINS, Chain, bytes_of, chained};
 use enumeration::figure_by_enumeration;
 use figures_line::Figures;
 use graph::parts;
-use pedigree::{Family, FamilyBuilder, FamilyFault, Meiosis, Person, Side};
+use pedigree::{Family, FamilyBuilder, FamilyFault, Meiosis, PERSONS, Person, Side};
 use readings::codominant::Codominant;
 use readings::dominant::Dominant;
 use readings::model::Model;
@@ -55,12 +55,12 @@ fn family_of(persons: &[Person]) -> Result<Family, FamilyFault> {
     builder.close()
 }
 
-fn bits_of(turned: Option<usize>) -> [Meiosis; 64] {
+fn bits_of(turned: Option<usize>) -> [Meiosis; PERSONS] {
     let straight = Meiosis {
         maternal: false,
         paternal: false,
     };
-    let mut bits = [straight; 64];
+    let mut bits = [straight; PERSONS];
     if let Some(person) = turned
         && let Some(meiosis) = bits.get_mut(person)
     {

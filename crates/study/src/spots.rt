@@ -3,9 +3,7 @@ ghost use Rattle.std.specs.Prelude.{◌≡◌, ◌-◌, ◌<◌, ◌≤◌};
 ghost use Rattle.study.specs.Readings.{place_of};
 
 use crate::panels::LOCI;
-
-// A family has 1 to so many persons.
-const PERSONS: usize = 64;
+use pedigree::PERSONS;
 
 // How many readings a table has.
 pub(crate) const PLACES: usize = PERSONS * LOCI;
