@@ -1,7 +1,6 @@
 use Rattle.std.proofs.Common.{◌∷◌, length, sym}
 use Rattle.sums.specs.Gathering.{items}
 use Rattle.sums.specs.Seen.{seen}
-use Rattle.sums.specs.Widths.{too_wide}
 use Rattle.sums.proofs.Parting.{parted_old, parted_new, parted_all, wide_some, wide_none, narrow_more}
 use Rattle.sums.proofs.priced.Priced.is_wide.Goals as goal
 

@@ -1,6 +1,6 @@
 use Rattle.std.proofs.Common.{◌≡◌, [], ◌∷◌, length, replicate, None, sym, ap, ◌∙◌, subst}
 use Rattle.figures.specs.Figure.{weights}
-use Rattle.figures.specs.Graph.{links, component_sum, has}
+use Rattle.figures.specs.Graph.{component_sum}
 use Rattle.figures.specs.Lists.{In, Once}
 use Rattle.figures.specs.View.{readings_of}
 use Rattle.figures.proofs.Factored.{figures_factored, own_inside}
@@ -9,7 +9,7 @@ use Rattle.sums.specs.Gathering.{items}
 use Rattle.sums.specs.Searching.{Inside, env, fits_order}
 use Rattle.sums.specs.Seen.{told, seen}
 use Rattle.sums.proofs.Lawful.{lawful_once, lawful_below}
-use Rattle.sums.proofs.Parting.{parted_none, parted_old, parted_new, parted_all, product_more, nothing_set}
+use Rattle.sums.proofs.Parting.{parted_old, parted_new, parted_all, product_more, nothing_set}
 use Rattle.sums.proofs.Views.{seen_sound}
 use Rattle.sums.proofs.priced.Priced.product.Goals as goal
 
