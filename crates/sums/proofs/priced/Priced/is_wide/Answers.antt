@@ -1,4 +1,4 @@
-use Rattle.std.proofs.Common.{◌∷◌, length, sym}
+use Rattle.std.proofs.Common.{◌∷◌, length, sym, rules}
 use Rattle.sums.specs.Gathering.{items}
 use Rattle.sums.specs.Seen.{seen}
 use Rattle.sums.proofs.Parting.{parted_old, parted_new, parted_all, wide_some, wide_none, narrow_more}
@@ -11,7 +11,7 @@ loop-slot-preserved-then-contains g c =
 pub returns-then-is_too_wide : goal.returns-then-is_too_wide
 returns-then-is_too_wide g c =
     let site = c.args.self.now.site.now in
-    wide_some site.held.now (g.M.Model.classes site.model.now site.locus) (g.M.Model.fitting site.model.now site.locus) (length c.args.self.now.costs.now) c.loop-slot.slot (items c.gather-found.result) c.loop-slot-test.true c.gather-found.ensures (sym c.if-is_too_wide.ensures)
+    (λ _. wide_some site.held.now (g.M.Model.classes site.model.now site.locus) (g.M.Model.fitting site.model.now site.locus) (length c.args.self.now.costs.now) c.loop-slot.slot (items c.gather-found.result) c.loop-slot-test.true c.gather-found.ensures (sym c.if-is_too_wide.ensures), λ _. search rules)
 
 pub loop-slot-preserved : goal.loop-slot-preserved
 loop-slot-preserved g c =
@@ -25,4 +25,4 @@ returns g c =
     let fits = g.M.Model.fitting site.model.now site.locus in
     let inv = c.loop-slot.invariant in
     let k = length c.args.self.now.costs.now in
-    wide_none site.held.now class fits k inv.0 (parted_all (seen site.held.now k class fits) c.loop-slot-test.false inv.1) inv.2
+    (λ e. search rules, λ w. absurd (wide_none site.held.now class fits k inv.0 (parted_all (seen site.held.now k class fits) c.loop-slot-test.false inv.1) inv.2 w))
