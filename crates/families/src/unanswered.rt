@@ -27,7 +27,7 @@ impl fmt::Display for Unanswered {
     fn fmt<W: fmt::Write>(&self, f: &mut fmt::Formatter<W>) -> fmt::Result {
         match *self {
             Unanswered::Refused(refusal) => write!(f, "refused {}", refusal.number),
-            Unanswered::Wide(wide) => write!(f, "locus {} is wide", wide.locus),
+            Unanswered::Wide(wide) => write!(f, "{wide}"),
         }
     }
 }

@@ -3,7 +3,7 @@
 use Rattle.std.proofs.Common.{◌≡◌, ℕ, ◌+◌, ◌<◌, ◌≤◌, true, false, not, ◌&&◌, ltb, ◌⊎◌, List, [], ◌∷◌, ◌++◌, length, sym, refl, ◌∙◌, subst, inl, inr, arith}
 use Rattle.std.specs.List.{range_with_len}
 use Rattle.std.proofs.lemmas.List.FromFn.{length-range_with_len}
-use Rattle.std.proofs.lemmas.Bool.{and_parts, and_from, and_left, and_right, not_from_true, cond-true, cond-false, cases_Bool, not-true, not_from_false, lt-ltb, ltb-true, le-ltb, both_ways}
+use Rattle.std.proofs.lemmas.Bool.{and_parts, and_from, and_right, not_from_true, cond-true, cond-false, cases_Bool, not-true, not_from_false, lt-ltb, ltb-true, both_ways}
 use Rattle.figures.specs.Lists.{every, In, Once}
 use Rattle.figures.specs.Graph.{has}
 use Rattle.figures.proofs.Members.{in_append, in_counting, once_append, every_from, every_at, has_in, in_has, no_more}

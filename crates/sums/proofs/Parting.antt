@@ -27,9 +27,9 @@ pub record Parted (n : ℕ) (ls : List (ℕ × ℕ)) (gathered : List ℕ) (i : 
   pub known : (t : ℕ) → In t (flat_map (λ c. c) cs) → has gathered t ≡ true
   pub covered : (t : ℕ) → t < i → In t (flat_map (λ c. c) cs)
 
-module _ (n : ℕ) (ls : List (ℕ × ℕ)) where
-  pub parted_none : (gathered : List ℕ) → ((t : ℕ) → has gathered t ≡ false) → Parted n ls gathered 0 []
-  parted_none gathered blank = record {
+module _ {n : ℕ} {ls : List (ℕ × ℕ)} where
+  pub parted_none : {gathered : List ℕ} → ((t : ℕ) → has gathered t ≡ false) → Parted n ls gathered 0 []
+  parted_none {gathered} blank = record {
     each = λ c i. elim i [ ];
     once = tt;
     marked = λ t e. absurd (both_ways (has gathered t) (blank t) e);
@@ -37,7 +37,7 @@ module _ (n : ℕ) (ls : List (ℕ × ℕ)) where
     covered = λ t h. absurd (omega arith);
   }
 
-  module _ (gathered : List ℕ) (i : ℕ) (cs : List (List ℕ)) (p : Parted n ls gathered i cs) where
+  module _ {gathered : List ℕ} {i : ℕ} {cs : List (List ℕ)} (p : Parted n ls gathered i cs) where
     -- a slot gathered before
     pub parted_old : has gathered i ≡ true → Parted n ls gathered (i + 1) cs
     parted_old e = record {
@@ -53,8 +53,8 @@ module _ (n : ℕ) (ls : List (ℕ × ℕ)) where
         go t h (inr ne) = p.covered t (omega arith)
 
     -- a new component
-    pub parted_new : (c : List ℕ) (new : List ℕ) → i < n → Component n ls i c → has gathered i ≡ false → ((t : ℕ) → has new t ≡ (has gathered t || has c t)) → Parted n ls new (i + 1) (c ∷ cs)
-    parted_new c new small comp free is = record {
+    pub parted_new : {c new : List ℕ} → i < n → Component n ls i c → has gathered i ≡ false → ((t : ℕ) → has new t ≡ (has gathered t || has c t)) → Parted n ls new (i + 1) (c ∷ cs)
+    parted_new {c} {new} small comp free is = record {
       each = λ d j. which d j;
       once = once_append c (flat_map (λ d. d) cs) comp.once p.once apart;
       marked = λ t e. from_mark t (or_cases (has gathered t) (has c t) (sym (is t) ∙ e));
@@ -88,8 +88,8 @@ module _ (n : ℕ) (ls : List (ℕ × ℕ)) where
         go t h (inl q) = in_left t c (flat_map (λ d. d) cs) (subst (λ u. In u c) (sym q) own_slot)
         go t h (inr ne) = in_right t c (flat_map (λ d. d) cs) (p.covered t (omega arith))
 
-pub parted_all : (L : Locus) (gathered : List ℕ) (i : ℕ) (cs : List (List ℕ)) → L.slots ≤ i → Parted L.slots (links L.readings) gathered i cs → Components L cs
-parted_all L gathered i cs h p = record {
+pub parted_all : (L : Locus) {gathered : List ℕ} {i : ℕ} {cs : List (List ℕ)} → L.slots ≤ i → Parted L.slots (links L.readings) gathered i cs → Components L cs
+parted_all L h p = record {
   each = p.each;
   once = p.once;
   all = λ s l. p.covered s (omega arith);

@@ -181,24 +181,24 @@ pub record Gathers (n : ℕ) (ls : List (ℕ × ℕ)) (slot : ℕ) (ss : List �
   pub inside : (t : ℕ) → In t ss → (t < n) × Chain ls slot t
   pub followed : (j t : ℕ) → j < next → Joined ls (get_or ss j 0) t → In t ss
 
-module _ (n : ℕ) (ls : List (ℕ × ℕ)) (within : (a b : ℕ) → In (a, b) ls → (a < n) × (b < n)) (few : n ≤ 64) (slot : ℕ) where
-  pub gathers_first : slot < n → Gathers n ls slot (pushed [] slot) 0
-  gathers_first h = record {
+module _ {n : ℕ} {ls : List (ℕ × ℕ)} (within : (a b : ℕ) → In (a, b) ls → (a < n) × (b < n)) (few : n ≤ 64) {slot : ℕ} where
+  pub gathers_first : {ss : List ℕ} → ss ≡ pushed [] slot → slot < n → Gathers n ls slot ss 0
+  gathers_first is h = subst (λ ss. Gathers n ls slot ss 0) (sym is) (record {
     there = push_there [] slot (omega arith);
     inside = λ t i. start t (push_in [] slot t i);
     followed = λ j t l. absurd (omega arith);
-  }
+  })
     where
       start : (t : ℕ) → In t [] ⊎ (t ≡ slot) → (t < n) × Chain ls slot t
       start t (inl i) = elim i [ ]
       start t (inr e) = (omega arith, subst (Chain ls slot) (sym e) same)
 
-  pub gathers_more : (ss : List ℕ) (next : ℕ) → next < length ss → Gathers n ls slot ss next → Gathers n ls slot (reached ls (get_or ss next 0) ss) (next + 1)
-  gathers_more ss next h g = record {
+  pub gathers_more : {ss more : List ℕ} {next : ℕ} → next < length ss → more ≡ reached ls (get_or ss next 0) ss → Gathers n ls slot ss next → Gathers n ls slot more (next + 1)
+  gathers_more {ss} {more} {next} h is g = subst (λ xs. Gathers n ls slot xs (next + 1)) (sym is) (record {
     there = grown slot g.there;
     inside = λ t i. found t (reached_in ls s ss t i);
     followed = λ j t l q. follow_at j t (cases_eq j next) l q;
-  }
+  })
     where
       s : ℕ
       s = get_or ss next 0
@@ -226,8 +226,8 @@ module _ (n : ℕ) (ls : List (ℕ × ℕ)) (within : (a b : ℕ) → In (a, b) 
           (subst (λ u. Joined ls u t) (same_place j (omega arith) ∙ ap (λ u. get_or ss u 0) e) q)
       follow_at j t (inr ne) l q = grown t (g.followed j t (omega arith) (subst (λ u. Joined ls u t) (same_place j (omega arith)) q))
 
-  pub gathers_all : (ss : List ℕ) (next : ℕ) → length ss ≤ next → lawful ss ≡ true → Gathers n ls slot ss next → Component n ls slot ss
-  gathers_all ss next h law g = record {
+  pub gathers_all : {ss : List ℕ} {next : ℕ} → length ss ≤ next → lawful ss ≡ true → Gathers n ls slot ss next → Component n ls slot ss
+  gathers_all {ss} {next} h law g = record {
     once = lawful_once ss law;
     exactly = λ t. (g.inside t, λ q. (closed q.1).0 g.there);
   }

@@ -1,5 +1,5 @@
 // The components of a locus one after the other: their width, and the product of their sums.
-ghost use Rattle.std.specs.Prelude.{◌≡◌, ℕ, ◌<◌, ◌&&◌, length, MatchBool, OnErr, IfOk, IfErr, OnOk};
+ghost use Rattle.std.specs.Prelude.{◌≡◌, ℕ, ◌<◌, ◌↔◌, length, IsTrue, IsErr, IfOk, IfErr};
 ghost use Rattle.figures.specs.Figure.{weights, figure as figure_of};
 ghost use Rattle.figures.specs.Graph.{Wide, Sound, has};
 ghost use Rattle.sums.specs.Gathering.{items};
@@ -36,8 +36,7 @@ impl<M: Model> Site<'_, M> {
     fn narrow<'b>(&'b self, costs: &'b [u16]) -> Result<Priced<'b, M>, WideLocus>
         ensures site { IfOk result (λ p. p.site.now ≡ self.now) }
         ensures costs { IfOk result (λ p. p.costs.now ≡ alleles_of costs.now) }
-        ensures narrow { OnOk result (Wide (seen self.now.held.now (length (alleles_of costs.now)) (M.classes self.now.model.now self.now.locus) (M.fitting self.now.model.now self.now.locus)) → ⊥) }
-        ensures wide { OnErr result (Wide (seen self.now.held.now (length (alleles_of costs.now)) (M.classes self.now.model.now self.now.locus) (M.fitting self.now.model.now self.now.locus))) }
+        ensures wide { IsErr result ↔ Wide (seen self.now.held.now (length (alleles_of costs.now)) (M.classes self.now.model.now self.now.locus) (M.fitting self.now.model.now self.now.locus)) }
         ensures locus { IfErr result (λ e. e.locus ≡ self.now.locus) }
     {
         let priced = Priced {
@@ -86,7 +85,7 @@ impl<M: Model> Priced<'_, M> {
 
     // Whether any component is wide. The slots are the numbers below their count.
     fn is_wide(&self) -> bool
-        ensures { MatchBool result (Wide (seen self.now.site.now.held.now (length self.now.costs.now) (M.classes self.now.site.now.model.now self.now.site.now.locus) (M.fitting self.now.site.now.model.now self.now.site.now.locus))) (Wide (seen self.now.site.now.held.now (length self.now.costs.now) (M.classes self.now.site.now.model.now self.now.site.now.locus) (M.fitting self.now.site.now.model.now self.now.site.now.locus)) → ⊥) }
+        ensures { IsTrue result ↔ Wide (seen self.now.site.now.held.now (length self.now.costs.now) (M.classes self.now.site.now.model.now self.now.site.now.locus) (M.fitting self.now.site.now.model.now self.now.site.now.locus)) }
     {
         let mut gathered = Gathered::new();
         for slot in 0..self.site.held.slots {
@@ -108,6 +107,7 @@ impl<M: Model> Priced<'_, M> {
     {
         let mut total = V::one();
         let mut gathered = Gathered::new();
+        // The walk is that of is_wide, written out again: of a closure that kept the slots gathered a proof would know nothing.
         for slot in 0..self.site.held.slots {
             if gathered.contains(slot) {
                 continue;

@@ -59,7 +59,7 @@ impl Gathered {
         }
     }
 
-    // The other end of a link that has the slot at one end.
+    // Gathers the other end of a link that has the slot at one end.
     fn follow(&mut self, ends: (usize, usize), slot: usize)
         ensures { items self.new ≡ follow slot (items self.old) ends }
     {

@@ -1,4 +1,4 @@
-use Rattle.std.proofs.Common.{◌≡◌, ℕ, ◌&&◌, ap, ◌∙◌, rules, tests, sym, zero-add, arith}
+use Rattle.std.proofs.Common.{ℕ, ◌&&◌, ap, ◌∙◌, rules, tests, sym, zero-add, arith}
 use Rattle.std.specs.List.{range_with_len, list_any, enumerate_from}
 use Rattle.std.proofs.lemmas.Iterator.{YieldsList-from_slice}
 use Rattle.std.proofs.lemmas.Iterator.Consumers.{YieldsList-from_enumerate}

@@ -23,14 +23,8 @@ invariant_of-result c =
       );
     }
 
-pub returns : goal.returns
-returns c =
+pub returns-clause-told : goal.returns-clause-told
+returns-clause-told c =
     let f = c.args.family.now in
-    record {
-      told =
-          ap₂ take c.count.ensures c.all_slots.ensures.value
-          ∙ take_at (slots_of (persons_of f) c.args.bits.now) _ (length (persons_of f)) (descent_stands (persons_of f) c.args.bits.now (family_lawful f).2).0.all;
-      slots = c.slot_count.ensures;
-      persons = c.count.ensures;
-      pairs = c.all_slots.ensures.value;
-    }
+    ap₂ take c.count.ensures c.all_slots.ensures.value
+    ∙ take_at (slots_of (persons_of f) c.args.bits.now) _ (length (persons_of f)) (descent_stands (persons_of f) c.args.bits.now (family_lawful f).2).0.all
