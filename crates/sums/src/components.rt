@@ -11,7 +11,7 @@ use crate::locus_figure::WideLocus;
 use crate::order::Gathered;
 use crate::priced::Priced;
 use crate::site::Site;
-use crate::slots::Held;
+use crate::slots::{Held, SLOTS};
 use algebra::Algebra;
 use readings::class::Class;
 use readings::model::Model;
@@ -113,7 +113,7 @@ impl<M: Model> Priced<'_, M> {
                 continue;
             }
             let found = self.site.gather(slot);
-            let sum: V = self.search(found.slots(), [None; 64]);
+            let sum: V = self.search(found.slots(), [None; SLOTS]);
             total = total.product(sum);
             gathered.push_all(&found);
         }

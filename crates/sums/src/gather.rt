@@ -9,12 +9,10 @@ ghost use Rattle.sums.specs.Ordered.{pushed};
 
 use crate::order::Gathered;
 use crate::site::Site;
+use crate::slots::SLOTS;
 use arrayvec::ArrayVec;
 use readings::class::Class;
 use readings::model::Model;
-
-// A family has this many slots at most.
-const SLOTS: usize = 64;
 
 impl Gathered {
     // Nothing gathered.

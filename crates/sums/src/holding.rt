@@ -6,11 +6,11 @@ ghost use Rattle.pedigree.specs.Slots.{slots_of};
 ghost use Rattle.sums.specs.Seen.{told};
 
 use crate::slots::Held;
-use pedigree::{Family, Meiosis};
+use pedigree::{Family, Meiosis, PERSONS};
 
 impl Held {
     // The slots that the persons of a family hold under the meiosis bits of a locus.
-    pub fn of(family: &Family, bits: &[Meiosis; 64]) -> Held
+    pub fn of(family: &Family, bits: &[Meiosis; PERSONS]) -> Held
         ensures told { told result ≡ slots_of (persons_of family.now) bits.now }
         ensures slots { result.slots ≡ 2 * founders_in (persons_of family.now) }
         ensures persons { result.persons ≡ length (persons_of family.now) }

@@ -2,11 +2,12 @@
 ghost use Rattle.std.specs.Prelude.{◌≡◌, true};
 ghost use Rattle.sums.specs.Ordered.{lawful};
 
+use crate::slots::SLOTS;
 use arrayvec::ArrayVec;
 
 // Slots below 64, none twice.
 #[derive(Drop)]
 pub(crate) struct Gathered {
-    pub(crate) slots: ArrayVec<usize, 64>,
+    pub(crate) slots: ArrayVec<usize, SLOTS>,
     ghost apart: { lawful slots.items ≡ true },
 }

@@ -10,12 +10,13 @@ ghost use Rattle.sums.specs.Seen.{told};
 
 use crate::priced::Priced;
 use crate::site::Site;
+use crate::slots::SLOTS;
 use algebra::Algebra;
 use readings::model::Model;
 
 impl<M: Model> Site<'_, M> {
     // Whether the reading of a person fits the alleles set so far, where the slot set last is one of its two.
-    fn person_fits(&self, person: usize, slot: usize, alleles: &[Option<u8>; 64]) -> bool
+    fn person_fits(&self, person: usize, slot: usize, alleles: &[Option<u8>; SLOTS]) -> bool
         requires { person < self.now.held.now.persons }
         ensures { result ≡ passes_at self.now.held.now (M.fitting self.now.model.now self.now.locus) alleles.now slot person }
     {
@@ -31,7 +32,7 @@ impl<M: Model> Site<'_, M> {
 
     // Whether the readings of all persons fit the alleles set so far, as far as the slot set last bears on them. The persons are gone through by number,
     // which is what the model is asked by; so each pair is known to be a person's, and its slots to be below 64.
-    fn admits(&self, slot: usize, alleles: &[Option<u8>; 64]) -> bool
+    fn admits(&self, slot: usize, alleles: &[Option<u8>; SLOTS]) -> bool
         ensures { result ≡ every (passes_at self.now.held.now (M.fitting self.now.model.now self.now.locus) alleles.now slot) (range_with_len 0 self.now.held.now.persons) }
     {
         (0..self.held.persons).all(|person| self.person_fits(person, slot, alleles))
@@ -41,7 +42,7 @@ impl<M: Model> Site<'_, M> {
 impl<M: Model> Priced<'_, M> {
     // The sum over the alleles of the slots, whatever slots had their alleles set before them. The alleles are told by slot and passed by value, so that
     // nothing has to be put back.
-    pub(crate) fn search<V: Algebra>(&self, slots: &[usize], alleles: [Option<u8>; 64]) -> V
+    pub(crate) fn search<V: Algebra>(&self, slots: &[usize], alleles: [Option<u8>; SLOTS]) -> V
         requires { (t : ℕ) → In t slots.now → t < 64 }
         ensures { (done : List ℕ) → Searching self.now.site.now.held.now (M.fitting self.now.site.now.model.now self.now.site.now.locus) done slots.now alleles → Inside (done ++ slots.now) (readings_of (told self.now.site.now.held.now) (M.classes self.now.site.now.model.now self.now.site.now.locus) (M.fitting self.now.site.now.model.now self.now.site.now.locus)) → result ≡ searched V.operations (length self.now.costs.now) (weights V.operations self.now.costs.now) (fits_order (done ++ slots.now) (readings_of (told self.now.site.now.held.now) (M.classes self.now.site.now.model.now self.now.site.now.locus) (M.fitting self.now.site.now.model.now self.now.site.now.locus))) slots.now (env alleles) }
     {
