@@ -1,14 +1,14 @@
 -- The algebra of the best keeps the laws.
 -- Assumes nothing.
-use Rattle.std.specs.Prelude.{◌≡◌, ℕ, min}
-use Rattle.std.proofs.Common.{ap₂, ◌∙◌, add_comm, mul_comm, zero-add, one-mul, arith}
+use Rattle.std.specs.Prelude.{◌≡◌, ℕ, ◌+◌, ◌*◌, ◌<◌, ◌≤◌, ◌==◌, min}
+use Rattle.std.proofs.Common.{ap₂, ◌∙◌, add_comm, mul_comm, zero-add, one-mul, mul-pos, arith}
 use Rattle.std.proofs.lemmas.Bool.Decides.{nat_tests}
 use Rattle.algebra.specs.Semiring.{Laws}
 use Rattle.algebra.specs.Best.{ranked, reaching, best_ops}
 use Rattle.algebra.specs.declared.values.Best.{Best}
 use Rattle.algebra.specs.Same.{same_best}
-use Rattle.algebra.specs.Caps.{cut_product_assoc, cut_distributes}
-use Rattle.algebra.specs.BestSums.{sum_is, product_is, reaching_product}
+use Rattle.algebra.specs.Caps.{cut, cut_product_assoc, cut_distributes}
+use Rattle.algebra.specs.BestSums.{live, sum_is, product_is, reaching_product}
 
 sum_assoc : (x y z : Best) → best_ops.sum (best_ops.sum x y) z ≡ best_ops.sum x (best_ops.sum y z)
 sum_assoc x y z =
@@ -38,7 +38,7 @@ product_assoc x y z =
     let e = cut_product_assoc x.number y.number z.number in
     same_best _ _ (omega (arith, p.0, q.0, l.0, r.0)) (grind (arith, nat_tests))
 
-ranked_own : (x : Best) → ranked x.cost x.number ≡ x
+pub ranked_own : (x : Best) → ranked x.cost x.number ≡ x
 ranked_own x = same_best _ _ (grind (arith, nat_tests)) (grind (arith, nat_tests))
 
 absorbs : (x : Best) → best_ops.product best_ops.zero x ≡ best_ops.zero
@@ -68,3 +68,31 @@ best_laws = record {
   distributes = distributes;
   absorbs = absorbs;
 }
+
+-- the sum and the product case by case, and the weight of a cost
+module _ (x y : Best) where
+  pub sum_first : x.cost < y.cost → x ≡ best_ops.sum x y
+  sum_first h = same_best _ _ (grind (arith, nat_tests)) (grind (arith, nat_tests))
+
+  pub sum_second : y.cost < x.cost → y ≡ best_ops.sum x y
+  sum_second h = same_best _ _ (grind (arith, nat_tests)) (grind (arith, nat_tests))
+
+  pub sum_tied : x.cost ≡ y.cost → (z : Best) → z.cost ≡ x.cost → z.number ≡ cut (x.number + y.number) → z ≡ best_ops.sum x y
+  sum_tied e z p q = same_best _ _ (grind (arith, nat_tests)) (grind (arith, nat_tests))
+
+  pub product_none : 4294967295 ≤ x.cost + y.cost → (z : Best) → z.cost ≡ 4294967295 → z.number ≡ 0 → z ≡ best_ops.product x y
+  product_none h z p q = same_best _ _ (grind (arith, nat_tests)) (grind (arith, nat_tests))
+
+  pub product_some : x.cost + y.cost < 4294967295 → (z : Best) → z.cost ≡ x.cost + y.cost → z.number ≡ cut (x.number * y.number) → z ≡ best_ops.product x y
+  product_some h z p q =
+      let r = product_is x y in
+      same_best _ _ (omega (arith, r.0)) (grind (arith, nat_tests))
+
+  -- a product that has a cost is reached
+  pub product_reached : (c n : ℕ) → c ≡ x.cost + y.cost → c < 4294967295 → n ≡ cut (x.number * y.number) → (c == 4294967295) ≡ (n == 0)
+  product_reached c n e h f =
+      let p : 0 < x.number * y.number = mul-pos (live x (omega arith)) (live y (omega arith)) in
+      grind (arith, nat_tests)
+
+pub weight_is : (c : ℕ) → c < 65536 → (z : Best) → z.cost ≡ c → z.number ≡ 1 → z ≡ ranked c 1
+weight_is c h z p q = same_best _ _ (grind (arith, nat_tests)) (grind (arith, nat_tests))

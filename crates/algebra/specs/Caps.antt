@@ -6,6 +6,9 @@ use Rattle.std.proofs.Common.{sym, ap, ◌∙◌, mul_comm, mul_assoc, mul-add, 
 abbrev pub cut : ℕ → ℕ
 cut n = min n 4294967295
 
+pub cut_sum : (a b : ℕ) → cut (cut a + b) ≡ cut (a + b)
+cut_sum a b = omega arith
+
 pub cut_sums : (a b : ℕ) → cut (cut a + cut b) ≡ cut (a + b)
 cut_sums a b = omega arith
 
