@@ -107,6 +107,7 @@ const HETEROZYGOUS: [u8; 512] = [1; 512];
 // Everybody shows allele 0 at six loci.
 const SHOWS: [u8; 384] = [1; 384];
 
+// What a model says of two alleles, in a word: a `bool` prints others.
 fn fit_name(fits: bool) -> &'static str {
     if fits { "fit" } else { "break" }
 }

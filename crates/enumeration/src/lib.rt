@@ -21,7 +21,7 @@ const MOST_SLOTS: usize = 8;
 const MOST_ALLELES: usize = 4;
 
 // The locus figure of a family under the meiosis bits of that locus, with one cost for each allele. None where the family has more than 8 founder
-// slots or the locus more than 4 alleles.
+// slots or the locus more than 4 alleles. It takes what the rules name, side by side, and shares no type with the figure that it is a witness for.
 pub fn figure_by_enumeration<V: Algebra, M: Model>(
     family: &Family,
     bits: &[Meiosis; PERSONS],
@@ -72,6 +72,7 @@ impl<M: Model> SmallLocus<'_, M> {
             return self.term(alleles.as_slice());
         }
         let mut total = V::zero();
+        // There are 4 alleles at most, so the cast loses nothing.
         for allele in 0..self.costs.len() as u8 {
             alleles.push(allele);
             total = total.sum(self.sum_from(alleles));

@@ -1,4 +1,5 @@
-// The rules of the founder-allele sums, and the theorems about them. Each function here states one theorem by its contract.
+// The rules of the founder-allele sums, and the theorems about them. Each function here states one theorem by its contract. It answers 0, which says
+// nothing of itself: a clause promises it, so that an edit can turn it.
 #![tactic(auto)]
 
 ghost use Rattle.std.specs.Prelude.{◌≡◌};

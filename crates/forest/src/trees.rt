@@ -1,14 +1,13 @@
 // The memory of a forest.
 ghost use Rattle.forest.specs.Hanging.{Kept, Grown, Undone};
 
+use pedigree::{FOUNDERS, PERSONS};
+
 pub mod asking;
 pub mod laying;
 
-// A family has at most this many persons.
-const PERSONS: usize = 64;
-
-// A family has at most this many founder slots.
-const SLOTS: usize = 64;
+// A family has at most this many founder slots: two for each founder.
+const SLOTS: usize = 2 * FOUNDERS;
 
 // What a person who links two slots ties: the slots, and the root that the link hung under another.
 #[derive(Clone, Copy)]

@@ -41,6 +41,7 @@ impl Forest {
         ensures lowest { (t : ℕ) → Chain (links_of self.now) slot t → result ≤ t }
         ensures same { Tells (links_of self.now) slot result }
     {
+        // A walk from parent to parent: there is nothing to go over and nothing to count.
         let mut root = slot;
         while self.parent_of(root) != root {
             root = self.parent_of(root);
