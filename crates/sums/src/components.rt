@@ -74,13 +74,8 @@ impl<M: Model> Priced<'_, M> {
         ensures { result ≡ too_wide self.now.site.now.held.now (M.classes self.now.site.now.model.now self.now.site.now.locus) (length self.now.costs.now) (items found.now) }
     {
         // At most 64 slots are gathered, so the cast loses nothing.
-        let slots = found.slots().len() as u32;
-        self.site.has_several(found)
-            && self
-                .costs
-                .len()
-                .checked_pow(slots)
-                .is_none_or(|power| power > MOST)
+        let assignments = self.costs.len().checked_pow(found.slots().len() as u32);
+        self.site.has_several(found) && assignments.is_none_or(|number| number > MOST)
     }
 
     // Whether any component is wide. The slots are the numbers below their count.
