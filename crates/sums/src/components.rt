@@ -116,7 +116,8 @@ impl<M: Model> Priced<'_, M> {
     }
 }
 
-// Through a mask a figure is the unmasked one with the excess of silencing added.
+// Through a mask a figure is the unmasked one with the excess of silencing added. The answer 0 says nothing of itself: a clause promises it, so that an
+// edit can turn it.
 pub fn masks_add_the_excess<V: Algebra>() -> u8
     ensures holds { ExcessThroughMask V.operations }
     ensures value { result ≡ 0 }
@@ -124,7 +125,7 @@ pub fn masks_add_the_excess<V: Algebra>() -> u8
     0
 }
 
-// The locus that any model gives is one for which the theorems about components hold.
+// The locus that any model gives is one for which the theorems about components hold. The answer is 0 here too.
 pub fn models_give_sound_loci<M: Model>() -> u8
     ensures holds { (m : M) (h : Held) (k locus : ℕ) → Sound (seen h k (M.classes m locus) (M.fitting m locus)) }
     ensures value { result ≡ 0 }
