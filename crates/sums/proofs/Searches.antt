@@ -77,14 +77,10 @@ module _ (h : Held) (class : ℕ → Class) (fits : ℕ → ℕ → ℕ → Bool
           ∙ s.fitting q.0 q.1
 
   module _ (slot : ℕ) (rest : List ℕ) (s : Searching h fits done (slot ∷ rest) xs) (small : slot < length xs) (a : ℕ) where
-    new : List (Option ℕ)
-    new = set xs slot (Some a)
-
     once : Once ((done ++ slot ∷ []) ++ rest)
     once = subst Once (sym (append_assoc done (slot ∷ []) rest)) s.once
 
-    set_cases : (t : ℕ) → is_set new t ≡ true → In t (done ++ slot ∷ [])
-    unfolding new
+    set_cases : (t : ℕ) → is_set (set xs slot (Some a)) t ≡ true → In t (done ++ slot ∷ [])
     set_cases t e = go (cases_eq t slot)
       where
         go : (t ≡ slot) ⊎ (t ≡ slot → ⊥) → In t (done ++ slot ∷ [])
@@ -93,7 +89,6 @@ module _ (h : Held) (class : ℕ → Class) (fits : ℕ → ℕ → ℕ → Bool
 
     -- the next slot set, and nothing breaks
     pub goes_on : every (passes_at h fits (set xs slot (Some a)) slot) (range_with_len 0 h.persons) ≡ true → Searching h fits (done ++ slot ∷ []) rest (set xs slot (Some a))
-    unfolding new
     goes_on pass = record {
       once = once;
       set = λ t i. set_at t (cases_eq t slot) (in_append t done (slot ∷ []) i);
@@ -118,14 +113,10 @@ module _ (h : Held) (class : ℕ → Class) (fits : ℕ → ℕ → ℕ → Bool
 
     -- a reading that breaks stays broken
     pub gives_up : {V : Type 0} (o : Ops V) → Laws o → (k : ℕ) (w : ℕ → V) → ((p x y : ℕ) → class p ≡ Silent → fits p x y ≡ true) → every (passes_at h fits (set xs slot (Some a)) slot) (range_with_len 0 h.persons) ≡ false → searched o k w (fits_order (done ++ slot ∷ rest) (readings_of (told h) class fits)) rest (env (set xs slot (Some a))) ≡ o.zero
-    unfolding new
     gives_up {V} o l k w silent stop =
         let f = some_fails (passes_at h fits (set xs slot (Some a)) slot) (range_with_len 0 h.persons) stop in
         dead f.0 f.1 f.2
       where
-        order : List ℕ
-        order = done ++ slot ∷ rest
-
         dead : (p : ℕ) → In p (range_with_len 0 h.persons) → passes_at h fits (set xs slot (Some a)) slot p ≡ false → searched o k w (fits_order (done ++ slot ∷ rest) (readings_of (told h) class fits)) rest (env (set xs slot (Some a))) ≡ o.zero
         dead p i e =
             let q = or_parts (not (eqb (pair_of h p).0 slot || eqb (pair_of h p).1 slot)) (agrees (fits p) (get_or (set xs slot (Some a)) (pair_of h p).0 None) (get_or (set xs slot (Some a)) (pair_of h p).1 None)) e in
