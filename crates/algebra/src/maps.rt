@@ -1,5 +1,5 @@
-// Maps that carry one algebra to another, so that they carry every figure too. They are methods and no `From`: a conversion would have neither a name
-// of its own nor a clause that says what it carries.
+// Maps that carry one algebra to another, so that they carry every figure too. They are methods: each is asked for by a name of its own, and a
+// clause of it says what it carries.
 ghost use Rattle.std.specs.Prelude.{◌≡◌};
 ghost use Rattle.algebra.specs.Best.{best_ops};
 ghost use Rattle.algebra.specs.Carried.{any_of, least_of};

@@ -1,8 +1,8 @@
 // The values of the four algebras, with what holds of each.
 ghost use Rattle.std.specs.Prelude.{◌≡◌, ◌≤◌, ◌==◌};
 
-// Where counts and costs stop. As a cost it means that there is none: that number is published, and sums and products need no case for it, as they
-// would for an `Option`.
+// Where counts and costs stop. As a cost it means that there is none. The rules publish that number, and a least cost adds and compares with it as with
+// any other, where an `Option` would need a case.
 pub const CAP: u32 = u32::MAX;
 
 // Whether anything fits.

@@ -4,7 +4,7 @@ use pedigree::{FamilyBuilder, FamilyFault};
 use refusal::Refusal;
 use std::io;
 
-// One call on a builder. It is data of a case and no closure: the cases are a constant table.
+// One call on a builder, as data: the cases are a constant table.
 #[derive(Clone, Copy, PartialEq, Eq, Debug)]
 enum Call {
     Founder,

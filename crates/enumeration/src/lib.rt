@@ -21,7 +21,7 @@ const MOST_SLOTS: usize = 8;
 const MOST_ALLELES: usize = 4;
 
 // The locus figure of a family under the meiosis bits of that locus, with one cost for each allele. None where the family has more than 8 founder
-// slots or the locus more than 4 alleles. It takes what the rules name, side by side, and shares no type with the figure that it is a witness for.
+// slots or the locus more than 4 alleles. It takes what the rules name, side by side, and uses nothing of the crate of the figure that it is a witness for.
 pub fn figure_by_enumeration<V: Algebra, M: Model>(
     family: &Family,
     bits: &[Meiosis; PERSONS],

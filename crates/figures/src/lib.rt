@@ -1,5 +1,5 @@
-// The rules of the founder-allele sums, and the theorems about them. Each function here states one theorem by its contract. It answers 0, which says
-// nothing of itself: a clause promises it, so that an edit can turn it.
+// The rules of the founder-allele sums, and the theorems about them. Each function here states one theorem by its contract. Its answer
+// is 0, as the last clause promises.
 #![tactic(auto)]
 
 ghost use Rattle.std.specs.Prelude.{◌≡◌};

@@ -52,7 +52,7 @@ pub fn code(a: u8, b: u8) -> u8
     ensures back { a ≤ 15 → b ≤ 15 → (result ≤ 135) × (pair_of result ≡ Some (min a b, max a b)) }
 {
     if a > LAST_ALLELE || b > LAST_ALLELE {
-        // A code and no `None`: each two alleles have one number, and 255 is the published one of those above 15.
+        // The rules give each two alleles a number: 255 where one of them is above 15.
         return NO_CODE;
     }
     CODES[16 * usize::from(a) + usize::from(b)]

@@ -14,7 +14,7 @@ pub const PERSONS: usize = 64;
 // How many of them are founders at most.
 pub const FOUNDERS: usize = 32;
 
-// A family that is being entered, person by person. It stays Copy and takes no heap, so its persons stand in fixed memory with their count beside them.
+// A family that is being entered, person by person. It is copied and takes no heap, so its persons stand in fixed memory with their count beside them.
 #[derive(Clone, Copy, PartialEq, Eq, Debug)]
 pub struct FamilyBuilder {
     persons: [Person; PERSONS],

@@ -17,7 +17,7 @@ pub enum Side {
 }
 
 // The two meiosis bits of a child at a locus, one a side: false where the side holds that parent's maternal slot,
-// true where it holds that parent's paternal slot. They stay bits, which the rules name so and a switch turns.
+// true where it holds that parent's paternal slot. The rules name them bits, and a switch turns one.
 #[derive(Clone, Copy, PartialEq, Eq, Debug)]
 pub struct Meiosis {
     pub maternal: bool,

@@ -10,7 +10,7 @@ use crate::model::Model as ReadingModel;
 #[derive(Clone, Copy)]
 pub struct Mask<M> {
     pub below: M,
-    // One flag for each person there can be: the set is fixed memory, and the mask stays `Copy`.
+    // One flag for each person there can be: a set in fixed memory, which is copied with the mask.
     pub silenced: [bool; PERSONS],
 }
 

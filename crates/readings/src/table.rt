@@ -3,7 +3,7 @@ ghost use Rattle.readings.specs.Tables.{byte_at};
 
 use crate::{LOCI, PERSONS};
 
-// The byte of a person without one. It is a published number that tables hold too, and no `None`: whoever asks gets a byte.
+// The byte of a person without one. The rules give it this number, which tables hold too, so that whoever asks gets a byte.
 const NO_BYTE: u8 = 255;
 
 // The byte of a person at a locus, in a table that holds one locus after the other.

@@ -18,7 +18,7 @@ pub enum Layer {
 // A refusal: its number, the place that it is about, and the layer that refuses.
 #[derive(Clone, Copy, PartialEq, Eq, Debug)]
 pub struct Refusal {
-    // A number and no enum: the numbers are published, and each layer's own faults are an enum that is turned into them.
+    // The published number of the case. The cases themselves are the faults of each layer, an enum that is converted into a refusal.
     pub number: u8,
     pub place: usize,
     pub layer: Layer,

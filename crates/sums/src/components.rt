@@ -102,7 +102,8 @@ impl<M: Model> Priced<'_, M> {
     {
         let mut total = V::one();
         let mut gathered = Gathered::new();
-        // The walk is that of is_wide, written out again: of a closure that kept the slots gathered a proof would know nothing.
+        // The walk is that of is_wide, which ends at the first wide component and sums nothing. What it keeps from step to step, the slots gathered and a total,
+        // no contract of a closure tells, so it is written out.
         for slot in 0..self.site.held.slots {
             if gathered.contains(slot) {
                 continue;
@@ -116,8 +117,7 @@ impl<M: Model> Priced<'_, M> {
     }
 }
 
-// Through a mask a figure is the unmasked one with the excess of silencing added. The answer 0 says nothing of itself: a clause promises it, so that an
-// edit can turn it.
+// Through a mask a figure is the unmasked one with the excess of silencing added. The answer is 0, as the last clause promises.
 pub fn masks_add_the_excess<V: Algebra>() -> u8
     ensures holds { ExcessThroughMask V.operations }
     ensures value { result ≡ 0 }
@@ -125,7 +125,8 @@ pub fn masks_add_the_excess<V: Algebra>() -> u8
     0
 }
 
-// The locus that any model gives is one for which the theorems about components hold. The answer is 0 here too.
+// The locus that any model gives is one for which the theorems about components hold. The answer is 0, as the
+// last clause promises.
 pub fn models_give_sound_loci<M: Model>() -> u8
     ensures holds { (m : M) (h : Held) (k locus : ℕ) → Sound (seen h k (M.classes m locus) (M.fitting m locus)) }
     ensures value { result ≡ 0 }

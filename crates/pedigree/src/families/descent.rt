@@ -35,8 +35,8 @@ fn held_by(
     }
 }
 
-// The bits settle the slots of every person: exactly one telling keeps the law of descent. The answer 0 says nothing of itself: a clause promises it, so
-// that an edit can turn it.
+// The bits settle the slots of every person: exactly one telling keeps the law of descent. The answer is 0, as its last clause promises: the theorem is in
+// the others.
 pub fn descent_is_settled() -> u8
     ensures stands { DescentStands }
     ensures settled { DescentSettled }
