@@ -1,22 +1,15 @@
 // Families: 64 persons, 32 founders, parents before their children, at least one person.
 use crate::told::print_answer;
-use pedigree::{FamilyBuilder, FamilyFault};
+use pedigree::{FamilyBuilder, FamilyFault, Person};
 use refusal::Refusal;
 use std::io;
 
-// One call on a builder, as data: the cases are a constant table.
-#[derive(Clone, Copy, PartialEq, Eq, Debug)]
-enum Call {
-    Founder,
-    Child(usize, usize),
-}
-
-// A call behind so many founders and so many selfed children of the first.
+// A person that is entered behind so many founders and so many selfed children of the first.
 struct Case {
     name: &'static str,
     founders: usize,
     children: usize,
-    call: Call,
+    person: Person,
 }
 
 const CASES: &[Case] = &[
@@ -24,73 +17,97 @@ const CASES: &[Case] = &[
         name: "the 63rd person",
         founders: 1,
         children: 61,
-        call: Call::Child(0, 0),
+        person: Person::Child {
+            mother: 0,
+            father: 0,
+        },
     },
     Case {
         name: "the 64th person",
         founders: 1,
         children: 62,
-        call: Call::Child(0, 0),
+        person: Person::Child {
+            mother: 0,
+            father: 0,
+        },
     },
     Case {
         name: "a 65th person",
         founders: 1,
         children: 63,
-        call: Call::Child(0, 0),
+        person: Person::Child {
+            mother: 0,
+            father: 0,
+        },
     },
     Case {
         name: "a 65th person of parents it lacks",
         founders: 1,
         children: 63,
-        call: Call::Child(64, 64),
+        person: Person::Child {
+            mother: 64,
+            father: 64,
+        },
     },
     Case {
         name: "the 32nd founder",
         founders: 31,
         children: 0,
-        call: Call::Founder,
+        person: Person::Founder,
     },
     Case {
         name: "a 33rd founder",
         founders: 32,
         children: 0,
-        call: Call::Founder,
+        person: Person::Founder,
     },
     Case {
         name: "a 33rd founder as the 64th person",
         founders: 32,
         children: 31,
-        call: Call::Founder,
+        person: Person::Founder,
     },
     Case {
         name: "a 33rd founder as a 65th person",
         founders: 32,
         children: 32,
-        call: Call::Founder,
+        person: Person::Founder,
     },
     Case {
         name: "a child of the person before it",
         founders: 2,
         children: 0,
-        call: Call::Child(1, 0),
+        person: Person::Child {
+            mother: 1,
+            father: 0,
+        },
     },
     Case {
         name: "a child that is its own mother",
         founders: 2,
         children: 0,
-        call: Call::Child(2, 0),
+        person: Person::Child {
+            mother: 2,
+            father: 0,
+        },
     },
     Case {
         name: "a child that is its own father",
         founders: 2,
         children: 0,
-        call: Call::Child(0, 2),
+        person: Person::Child {
+            mother: 0,
+            father: 2,
+        },
     },
     Case {
         name: "a child as the first person",
         founders: 0,
         children: 0,
-        call: Call::Child(0, 0),
+        person: Person::Child {
+            mother: 0,
+            father: 0,
+        },
     },
 ];
 
@@ -107,9 +124,9 @@ pub(crate) fn entered(founders: usize, children: usize) -> Result<FamilyBuilder,
 
 fn answered(case: &Case) -> Result<usize, Refusal> {
     let mut builder = entered(case.founders, case.children)?;
-    let number = match case.call {
-        Call::Founder => builder.founder()?,
-        Call::Child(mother, father) => builder.child(mother, father)?,
+    let number = match case.person {
+        Person::Founder => builder.founder()?,
+        Person::Child { mother, father } => builder.child(mother, father)?,
     };
     Ok(number)
 }

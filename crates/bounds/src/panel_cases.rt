@@ -2,7 +2,7 @@
 use crate::told::{print_answer, print_number};
 use refusal::Refusal;
 use std::io;
-use study::{Panel, PanelBuilder, ReadingsFault};
+use study::{Kind, Panel, PanelBuilder, ReadingsFault};
 
 // A locus entered behind so many others.
 struct Case {
@@ -113,36 +113,29 @@ fn after_a_ninth() -> Result<usize, Refusal> {
     Ok(builder.count())
 }
 
-// What the last of three loci is.
-#[derive(Clone, Copy, PartialEq, Eq, Debug)]
-pub(crate) enum Last {
-    Codominant,
-    Dominant,
-}
-
 // A panel of three loci. Before and behind a dominant one dominant loci begin.
-pub(crate) fn three(last: Last) -> Result<PanelBuilder, ReadingsFault> {
+pub(crate) fn three(last: Kind) -> Result<PanelBuilder, ReadingsFault> {
     let mut builder = PanelBuilder::new();
     builder.locus(3, &[5, 1, 2])?;
     builder.locus(
         16,
         &[0, 1, 2, 3, 4, 5, 6, 7, 8, 9, 10, 11, 12, 13, 14, 65535],
     )?;
-    if last == Last::Dominant {
+    if last == Kind::Dominant {
         builder.begin_dominant();
     }
     builder.locus(2, &[3, 1])?;
-    if last == Last::Dominant {
+    if last == Kind::Dominant {
         builder.begin_dominant();
     }
     Ok(builder)
 }
 
-fn closed_three(last: Last) -> Result<Panel, Refusal> {
+fn closed_three(last: Kind) -> Result<Panel, Refusal> {
     Ok(three(last)?.close()?)
 }
 
-fn codominants(last: Last) -> Result<usize, Refusal> {
+fn codominants(last: Kind) -> Result<usize, Refusal> {
     Ok(closed_three(last)?.codominants())
 }
 
@@ -171,14 +164,14 @@ pub(crate) fn run(rt: &HostRuntime) -> io::Result<()> {
     print_answer(
         rt,
         "codominant loci where none is dominant",
-        codominants(Last::Codominant),
+        codominants(Kind::Codominant),
     )?;
     print_answer(
         rt,
         "codominant loci where dominant ones begin at locus 2",
-        codominants(Last::Dominant),
+        codominants(Kind::Dominant),
     )?;
-    match closed_three(Last::Dominant) {
+    match closed_three(Kind::Dominant) {
         Ok(panel) => print_loci(rt, &panel),
         Err(refusal) => print_answer(rt, "three loci", Err(refusal)),
     }

@@ -1,11 +1,11 @@
 // Readings: the numbers that a locus has, one reading of a person at a locus, and the order in which a reading is refused.
 use crate::family_cases::entered;
-use crate::panel_cases::{Last, plain, three};
+use crate::panel_cases::{plain, three};
 use crate::told::{print_number, print_refusal};
 use pedigree::Family;
 use refusal::Refusal;
 use std::io;
-use study::{PanelBuilder, ReadingsFault, Tables};
+use study::{Kind, PanelBuilder, ReadingsFault, Tables};
 
 // A reading that is entered.
 struct Case {
@@ -269,6 +269,6 @@ fn run_study(
 }
 
 pub(crate) fn run(rt: &HostRuntime) -> io::Result<()> {
-    run_study(rt, &SMALL_STUDY, three(Last::Dominant))?;
+    run_study(rt, &SMALL_STUDY, three(Kind::Dominant))?;
     run_study(rt, &LARGE_STUDY, plain(8))
 }

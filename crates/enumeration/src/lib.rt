@@ -72,7 +72,7 @@ impl<M: Model> SmallLocus<'_, M> {
             return self.term(alleles.as_slice());
         }
         let mut total = V::zero();
-        // There are 4 alleles at most, so the cast loses nothing.
+        // There are 4 alleles at most, so the cast loses nothing; a conversion that may fail would want an answer for what cannot be.
         for allele in 0..self.costs.len() as u8 {
             alleles.push(allele);
             total = total.sum(self.sum_from(alleles));

@@ -1,7 +1,7 @@
 // The families, each with its meiosis bits, its readings at one locus and the costs of the alleles.
 use pedigree::Person;
 
-// How the bytes of the one locus are read.
+// How the bytes of the one locus are read. The program stands on no panel, which would tell the kind of a locus.
 #[derive(Clone, Copy, PartialEq, Eq, Debug)]
 pub enum Reader {
     Codominant,
@@ -41,7 +41,7 @@ const SELFED: &[Person] = &[
     },
 ];
 
-const THREE: &[u16] = &[5, 1, 2];
+pub const THREE: &[u16] = &[5, 1, 2];
 
 pub const CASES: &[Case] = &[
     Case {

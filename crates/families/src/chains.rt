@@ -1,5 +1,5 @@
 // Families of founders in a row, and of children each of two neighbours in it.
-use crate::cases::Reader;
+use crate::cases::{Reader, THREE};
 use pedigree::{Family, FamilyBuilder, FamilyFault, PERSONS};
 
 // A row of founders and its children, with the byte that is read of the first founders and of every child.
@@ -14,8 +14,6 @@ pub struct Chain {
 }
 
 const SIXTEEN: &[u16] = &[0, 1, 2, 3, 4, 5, 6, 7, 8, 9, 10, 11, 12, 13, 14, 15];
-
-const THREE: &[u16] = &[5, 1, 2];
 
 const TWO: &[u16] = &[3, 1];
 

@@ -1,13 +1,10 @@
 // The memory of a forest.
 ghost use Rattle.forest.specs.Hanging.{Kept, Grown, Undone};
 
-use pedigree::{FOUNDERS, PERSONS};
+use pedigree::{PERSONS, SLOTS};
 
 pub mod asking;
 pub mod laying;
-
-// A family has at most this many founder slots: two for each founder.
-const SLOTS: usize = 2 * FOUNDERS;
 
 // What a person who links two slots ties: the slots, and the root that the link hung under another.
 #[derive(Clone, Copy)]

@@ -14,7 +14,11 @@ pub const PERSONS: usize = 64;
 // How many of them are founders at most.
 pub const FOUNDERS: usize = 32;
 
-// A family that is being entered, person by person. It is copied and takes no heap, so its persons stand in fixed memory with their count beside them.
+// How many founder slots there are at most: two for each founder.
+pub const SLOTS: usize = 2 * FOUNDERS;
+
+// A family that is being entered, person by person. It is copied and takes no heap, so its persons stand in fixed memory with their count beside them;
+// how many of them are founders is kept, and not counted again for each that is entered.
 #[derive(Clone, Copy, PartialEq, Eq, Debug)]
 pub struct FamilyBuilder {
     persons: [Person; PERSONS],

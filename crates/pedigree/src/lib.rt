@@ -6,6 +6,6 @@ pub mod faults;
 pub mod persons;
 
 pub use families::descent::descent_is_settled;
-pub use families::{FOUNDERS, Family, FamilyBuilder, PERSONS};
+pub use families::{FOUNDERS, Family, FamilyBuilder, PERSONS, SLOTS};
 pub use faults::FamilyFault;
 pub use persons::{Meiosis, Person, Side};

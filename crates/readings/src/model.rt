@@ -5,8 +5,8 @@ ghost use Rattle.readings.specs.Model.{Rules};
 use crate::class::Class;
 
 // A reading model: what was read of each person at each locus. Every locus, person and allele number gets an answer,
-// and an answer leaves the model as it was. The numbers are passed side by side, as the rules name them: a struct of them would be taken apart again
-// by each model, which asks about one of them or changes it.
+// and an answer leaves the model as it was. The numbers are passed side by side, as the rules name them: a mask asks about one of them and two
+// panels change the other, so a struct of them would be taken apart again.
 pub trait Model {
     // The class of the reading of a person at a locus.
     ghost classes: { Self → ℕ → ℕ → Class };

@@ -8,5 +8,6 @@ mod spots;
 pub mod tables;
 
 pub use faults::ReadingsFault;
+pub use loci::Kind;
 pub use panels::{Panel, PanelBuilder};
 pub use tables::Tables;

@@ -5,7 +5,7 @@ ghost use Rattle.study.specs.Panels.{costs_low};
 // A locus has 1 to so many alleles.
 pub(crate) const ALLELES: usize = 16;
 
-// The number of a person of whom nothing was read.
+// The number of a person of whom nothing was read. The rules give it like any other number, and whoever enters a reading may pass it.
 pub(crate) const NOTHING: u8 = 255;
 
 // A dominant locus has the numbers below this one: allele 0 hides, or it shows.
@@ -13,7 +13,7 @@ const HIDES_OR_SHOWS: usize = 2;
 
 // What is read at a locus: both alleles of a person, or whether allele 0 shows.
 #[derive(Clone, Copy, PartialEq, Eq, Debug)]
-pub(crate) enum Kind {
+pub enum Kind {
     Codominant,
     Dominant,
 }
@@ -62,6 +62,7 @@ impl Locus {
         ensures { MatchOption result (costs_low costs.now ≡ false) (λ locus. listed locus ≡ costs.now) }
     {
         let mut memory = [0; ALLELES];
+        // Each cost goes to its own place, so the places are counted along.
         for (i, cost) in costs.iter().enumerate() {
             memory[i] = u16::try_from(*cost).ok()?;
         }

@@ -11,15 +11,16 @@ use crate::locus_figure::WideLocus;
 use crate::order::Gathered;
 use crate::priced::Priced;
 use crate::site::Site;
-use crate::slots::{Held, SLOTS};
+use crate::slots::Held;
 use algebra::Algebra;
+use pedigree::SLOTS;
 use readings::class::Class;
 use readings::model::Model;
 
 // A component with a reading of class several may have this many assignments.
 const MOST: usize = 65_536;
 
-// A locus has this many alleles at most.
+// A locus has this many alleles at most. `study` says so of its panels, which nothing here stands on.
 const ALLELES: usize = 16;
 
 impl<M: Model> Site<'_, M> {
@@ -73,12 +74,12 @@ impl<M: Model> Priced<'_, M> {
     fn is_too_wide(&self, found: &Gathered) -> bool
         ensures { result ≡ too_wide self.now.site.now.held.now (M.classes self.now.site.now.model.now self.now.site.now.locus) (length self.now.costs.now) (items found.now) }
     {
-        // At most 64 slots are gathered, so the cast loses nothing.
+        // At most 64 slots are gathered, so the cast loses nothing; a conversion that may fail would want an answer for what cannot be.
         let assignments = self.costs.len().checked_pow(found.slots().len() as u32);
         self.site.has_several(found) && assignments.is_none_or(|number| number > MOST)
     }
 
-    // Whether any component is wide. The slots are the numbers below their count.
+    // Whether any component is wide. The slots are the numbers below their count; `product` walks them in the same way.
     fn is_wide(&self) -> bool
         ensures { IsTrue result ↔ Wide (seen self.now.site.now.held.now (length self.now.costs.now) (M.classes self.now.site.now.model.now self.now.site.now.locus) (M.fitting self.now.site.now.model.now self.now.site.now.locus)) }
     {
@@ -102,8 +103,8 @@ impl<M: Model> Priced<'_, M> {
     {
         let mut total = V::one();
         let mut gathered = Gathered::new();
-        // The walk is that of is_wide, which ends at the first wide component and sums nothing. What it keeps from step to step, the slots gathered and a total,
-        // no contract of a closure tells, so it is written out.
+        // The walk is that of is_wide, which ends at the first wide component and sums nothing. A walker of its own would promise at each step how the slots gathered
+        // so far fall into components, which the two loops keep as they go.
         for slot in 0..self.site.held.slots {
             if gathered.contains(slot) {
                 continue;

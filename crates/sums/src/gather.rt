@@ -9,8 +9,8 @@ ghost use Rattle.sums.specs.Ordered.{pushed};
 
 use crate::order::Gathered;
 use crate::site::Site;
-use crate::slots::SLOTS;
 use arrayvec::ArrayVec;
+use pedigree::SLOTS;
 use readings::class::Class;
 use readings::model::Model;
 

@@ -2,8 +2,8 @@
 ghost use Rattle.std.specs.Prelude.{◌≡◌, true};
 ghost use Rattle.sums.specs.Ordered.{lawful};
 
-use crate::slots::SLOTS;
 use arrayvec::ArrayVec;
+use pedigree::SLOTS;
 
 // Slots below 64, none twice.
 #[derive(Drop)]

@@ -10,8 +10,8 @@ ghost use Rattle.sums.specs.Seen.{told};
 
 use crate::priced::Priced;
 use crate::site::Site;
-use crate::slots::SLOTS;
 use algebra::Algebra;
+use pedigree::SLOTS;
 use readings::model::Model;
 
 impl<M: Model> Site<'_, M> {
@@ -40,8 +40,8 @@ impl<M: Model> Site<'_, M> {
 }
 
 impl<M: Model> Priced<'_, M> {
-    // The sum over the alleles of the slots, whatever slots had their alleles set before them. The alleles are told by slot and passed by value, so that
-    // nothing has to be put back.
+    // The sum over the alleles of the slots, whatever slots had their alleles set before them. The alleles are told by slot, in memory
+    // that takes no heap, and passed by value, so that nothing has to be put back.
     pub(crate) fn search<V: Algebra>(&self, slots: &[usize], alleles: [Option<u8>; SLOTS]) -> V
         requires { (t : ℕ) → In t slots.now → t < 64 }
         ensures { (done : List ℕ) → Searching self.now.site.now.held.now (M.fitting self.now.site.now.model.now self.now.site.now.locus) done slots.now alleles → Inside (done ++ slots.now) (readings_of (told self.now.site.now.held.now) (M.classes self.now.site.now.model.now self.now.site.now.locus) (M.fitting self.now.site.now.model.now self.now.site.now.locus)) → result ≡ searched V.operations (length self.now.costs.now) (weights V.operations self.now.costs.now) (fits_order (done ++ slots.now) (readings_of (told self.now.site.now.held.now) (M.classes self.now.site.now.model.now self.now.site.now.locus) (M.fitting self.now.site.now.model.now self.now.site.now.locus))) slots.now (env alleles) }
@@ -52,7 +52,7 @@ impl<M: Model> Priced<'_, M> {
         let mut total = V::zero();
         for (allele, cost) in self.costs.iter().enumerate() {
             let mut more = alleles;
-            // An allele is below 16, so the cast loses nothing.
+            // An allele is below 16, so the cast loses nothing; a conversion that may fail would want an answer for what cannot be.
             more[slot] = Some(allele as u8);
             if self.site.admits(slot, &more) {
                 let sum: V = self.search(rest, more);

@@ -1,10 +1,7 @@
 // The founder slots that the persons of a family hold at a locus.
 ghost use Rattle.sums.specs.Within.{Within};
 
-use pedigree::{FOUNDERS, PERSONS};
-
-// A family has this many slots at most: two for each founder.
-pub(crate) const SLOTS: usize = 2 * FOUNDERS;
+use pedigree::PERSONS;
 
 // The pair of slots of each person, maternal first; the memory past the last person is of no use.
 // The fields are a fixed array and its count, since the type is public and Copy, and there is no heap. `pairs()` lends the pairs of the persons alone.

@@ -4,7 +4,8 @@ ghost use Rattle.figures.specs.Graph.{Chain, Parts};
 ghost use Rattle.forest.specs.Entries.{Tells};
 ghost use Rattle.forest.specs.Laid.{laid, links_of};
 
-use crate::trees::{Forest, SLOTS, Tie};
+use crate::trees::{Forest, Tie};
+use pedigree::SLOTS;
 
 impl Forest {
     // The ties of the persons laid, in their order.

@@ -3,8 +3,8 @@ ghost use Rattle.std.specs.Prelude.{◌≡◌, ◌-◌, ◌<◌, [], ◌∷◌, 
 ghost use Rattle.forest.specs.Laid.{laid, lay_answer, pass_answer};
 
 use crate::faults::LayFault;
-use crate::trees::{Forest, SLOTS, Tie};
-use pedigree::PERSONS;
+use crate::trees::{Forest, Tie};
+use pedigree::{PERSONS, SLOTS};
 use std::array;
 
 impl Forest {

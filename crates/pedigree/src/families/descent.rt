@@ -54,6 +54,7 @@ impl Family {
     {
         let mut slots = [(0, 0); PERSONS];
         let mut founders = 0;
+        // A person's number tells which slots stand before its own, and its bits.
         for (number, &person) in self.persons().iter().enumerate() {
             slots[number] = held_by(person, founders, bits[number], &slots[..number]);
             if person == Person::Founder {
