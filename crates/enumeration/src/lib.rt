@@ -6,7 +6,6 @@ ghost use Rattle.arrayvec.specs.ArrayVec.{array_vec_len};
 ghost use Rattle.pedigree.specs.Building.{persons_of};
 ghost use Rattle.pedigree.specs.Slots.{SlotsBelow};
 ghost use Rattle.figures.specs.Figure.{weights, product, fits_all};
-ghost use Rattle.figures.specs.View.{readings_of};
 ghost use Rattle.enumeration.specs.declared.TheConstants.{MOST_SLOTS, MOST_ALLELES};
 ghost use Rattle.enumeration.specs.Answer.{answer, added, sum_after};
 
@@ -62,10 +61,12 @@ struct SmallLocus<'a, M> {
 }
 
 impl<M: Model> SmallLocus<'_, M> {
+    ghost use Rattle.enumeration.specs.Small.{readings_in};
+
     // The sum over the assignments that begin with the alleles given.
     fn sum_from<V: Algebra>(&self, alleles: &mut ArrayVec<u8, MOST_SLOTS>) -> V
         requires { array_vec_len alleles.old ≤ self.now.slots }
-        ensures value { result ≡ sum_after V.operations (weights V.operations self.now.costs.now) (readings_of self.now.held.now (M.classes self.now.model.now self.now.locus) (M.fitting self.now.model.now self.now.locus)) (length self.now.costs.now) (self.now.slots - array_vec_len alleles.old) alleles.old.items }
+        ensures value { result ≡ sum_after V.operations (weights V.operations self.now.costs.now) (readings_in M.classes M.fitting self.now) (length self.now.costs.now) (self.now.slots - array_vec_len alleles.old) alleles.old.items }
         ensures unchanged { alleles.new ≡ alleles.old }
     {
         if alleles.len() == self.slots {
@@ -84,7 +85,7 @@ impl<M: Model> SmallLocus<'_, M> {
     // The product of an assignment, or zero where it breaks a reading.
     fn term<V: Algebra>(&self, alleles: &[u8]) -> V
         requires { length alleles.now ≡ self.now.slots }
-        ensures { result ≡ added V.operations (weights V.operations self.now.costs.now) (readings_of self.now.held.now (M.classes self.now.model.now self.now.locus) (M.fitting self.now.model.now self.now.locus)) alleles.now }
+        ensures { result ≡ added V.operations (weights V.operations self.now.costs.now) (readings_in M.classes M.fitting self.now) alleles.now }
     {
         if self.fits_readings(alleles) {
             self.product(alleles)
@@ -96,7 +97,7 @@ impl<M: Model> SmallLocus<'_, M> {
     // Whether an assignment fits the readings of all persons.
     fn fits_readings(&self, alleles: &[u8]) -> bool
         requires { length alleles.now ≡ self.now.slots }
-        ensures { result ≡ fits_all (readings_of self.now.held.now (M.classes self.now.model.now self.now.locus) (M.fitting self.now.model.now self.now.locus)) alleles.now }
+        ensures { result ≡ fits_all (readings_in M.classes M.fitting self.now) alleles.now }
     {
         self.held.iter().enumerate().all(|(person, &(maternal, paternal))| {
             self.model

@@ -6,8 +6,7 @@ ghost use Rattle.forest.specs.Entries.{in_range};
 ghost use Rattle.forest.specs.Laid.{laid, has_room};
 ghost use Rattle.figures.specs.Graph.{Parts, links};
 ghost use Rattle.figures.specs.Locus.{loud};
-ghost use Rattle.figures.specs.View.{readings_of};
-ghost use Rattle.sums.specs.Seen.{told};
+ghost use Rattle.sums.specs.Seen.{told, readings_at};
 ghost use Rattle.graph.specs.Entries.{entries_of};
 
 use forest::{Forest, LayFault};
@@ -46,7 +45,7 @@ pub fn lay_all<M: Model>(site: &Site<M>) -> Forest
 
 // The number of components of a locus.
 pub fn parts<M: Model>(site: &Site<M>) -> usize
-    ensures { Parts site.now.held.now.slots (links (readings_of (told site.now.held.now) (M.classes site.now.model.now site.now.locus) (M.fitting site.now.model.now site.now.locus))) result }
+    ensures { Parts site.now.held.now.slots (links (readings_at M.classes M.fitting site.now)) result }
 {
     lay_all(site).parts(site.held.slots)
 }

@@ -4,7 +4,7 @@ ghost use Rattle.figures.specs.Figure.{weights, figure as figure_of};
 ghost use Rattle.figures.specs.Graph.{Wide, Sound, has};
 ghost use Rattle.sums.specs.Gathering.{items};
 ghost use Rattle.sums.specs.Searching.{pair_of};
-ghost use Rattle.sums.specs.Seen.{seen, alleles_of};
+ghost use Rattle.sums.specs.Seen.{seen, alleles_of, locus_at};
 ghost use Rattle.sums.specs.Widths.{Figured, FiguredTwice, Carried, ExcessThroughMask, is_several, several_in, too_wide};
 
 use crate::locus_figure::WideLocus;
@@ -37,7 +37,7 @@ impl<M: Model> Site<'_, M> {
     fn narrow<'b>(&'b self, costs: &'b [u16]) -> Result<Priced<'b, M>, WideLocus>
         ensures site { IfOk result (λ p. p.site.now ≡ self.now) }
         ensures costs { IfOk result (λ p. p.costs.now ≡ alleles_of costs.now) }
-        ensures wide { IsErr result ↔ Wide (seen self.now.held.now (length (alleles_of costs.now)) (M.classes self.now.model.now self.now.locus) (M.fitting self.now.model.now self.now.locus)) }
+        ensures wide { IsErr result ↔ Wide (locus_at M.classes M.fitting self.now (length (alleles_of costs.now))) }
         ensures locus { IfErr result (λ e. e.locus ≡ self.now.locus) }
     {
         let priced = Priced {
@@ -53,7 +53,7 @@ impl<M: Model> Site<'_, M> {
     // The figure of the locus by an algebra: refused exactly where the locus is wide, and else the sum, over all assignments of alleles that fit the
     // readings, of the products of their weights. There is one cost for each allele; of more than 16 costs the first 16 count.
     pub fn figure<V: Algebra>(&self, costs: &[u16]) -> Result<V, WideLocus>
-        ensures { Figured V.operations (weights V.operations (alleles_of costs.now)) (seen self.now.held.now (length (alleles_of costs.now)) (M.classes self.now.model.now self.now.locus) (M.fitting self.now.model.now self.now.locus)) self.now.locus result }
+        ensures { Figured V.operations (weights V.operations (alleles_of costs.now)) (locus_at M.classes M.fitting self.now (length (alleles_of costs.now))) self.now.locus result }
     {
         Ok(self.narrow(costs)?.product())
     }
@@ -61,7 +61,7 @@ impl<M: Model> Site<'_, M> {
     // The figures of the locus by two algebras: refused as one figure is; every map that carries the first algebra to the second carries the first
     // figure to the second.
     pub fn two_figures<V: Algebra, W: Algebra>(&self, costs: &[u16]) -> Result<(V, W), WideLocus>
-        ensures values { FiguredTwice V.operations W.operations (weights V.operations (alleles_of costs.now)) (weights W.operations (alleles_of costs.now)) (seen self.now.held.now (length (alleles_of costs.now)) (M.classes self.now.model.now self.now.locus) (M.fitting self.now.model.now self.now.locus)) self.now.locus result }
+        ensures values { FiguredTwice V.operations W.operations (weights V.operations (alleles_of costs.now)) (weights W.operations (alleles_of costs.now)) (locus_at M.classes M.fitting self.now (length (alleles_of costs.now))) self.now.locus result }
         ensures carried { Carried V.operations W.operations result }
     {
         let priced = self.narrow(costs)?;
@@ -81,7 +81,7 @@ impl<M: Model> Priced<'_, M> {
 
     // Whether any component is wide. The slots are the numbers below their count; `product` walks them in the same way.
     fn is_wide(&self) -> bool
-        ensures { IsTrue result ↔ Wide (seen self.now.site.now.held.now (length self.now.costs.now) (M.classes self.now.site.now.model.now self.now.site.now.locus) (M.fitting self.now.site.now.model.now self.now.site.now.locus)) }
+        ensures { IsTrue result ↔ Wide (locus_at M.classes M.fitting self.now.site.now (length self.now.costs.now)) }
     {
         let mut gathered = Gathered::new();
         for slot in 0..self.site.held.slots {
@@ -99,7 +99,7 @@ impl<M: Model> Priced<'_, M> {
 
     // The product of the sums of all components.
     fn product<V: Algebra>(&self) -> V
-        ensures { result ≡ figure_of V.operations (weights V.operations self.now.costs.now) (seen self.now.site.now.held.now (length self.now.costs.now) (M.classes self.now.site.now.model.now self.now.site.now.locus) (M.fitting self.now.site.now.model.now self.now.site.now.locus)) }
+        ensures { result ≡ figure_of V.operations (weights V.operations self.now.costs.now) (locus_at M.classes M.fitting self.now.site.now (length self.now.costs.now)) }
     {
         let mut total = V::one();
         let mut gathered = Gathered::new();

@@ -2,9 +2,8 @@
 ghost use Rattle.std.specs.Prelude.{◌≡◌, ℕ, ◌<◌, ◌≤◌, [], ◌∷◌, ◌||◌, length};
 ghost use Rattle.figures.specs.Graph.{Component, links, has};
 ghost use Rattle.figures.specs.Locus.{loud};
-ghost use Rattle.figures.specs.View.{readings_of};
 ghost use Rattle.sums.specs.Gathering.{items, follow, reached};
-ghost use Rattle.sums.specs.Seen.{told};
+ghost use Rattle.sums.specs.Seen.{readings_at};
 ghost use Rattle.sums.specs.Ordered.{pushed};
 
 use crate::order::Gathered;
@@ -80,7 +79,7 @@ pub fn is_loud(class: Class) -> bool
 impl<M: Model> Site<'_, M> {
     // Gathers all that a link joins to the slot.
     fn reach(&self, slot: usize, found: &mut Gathered)
-        ensures { items found.new ≡ reached (links (readings_of (told self.now.held.now) (M.classes self.now.model.now self.now.locus) (M.fitting self.now.model.now self.now.locus))) slot (items found.old) }
+        ensures { items found.new ≡ reached (links (readings_at M.classes M.fitting self.now)) slot (items found.old) }
     {
         for (person, ends) in self.held.pairs().iter().enumerate() {
             if is_loud(self.model.class(self.locus, person)) {
@@ -92,7 +91,7 @@ impl<M: Model> Site<'_, M> {
     // The component of a slot.
     pub(crate) fn gather(&self, slot: usize) -> Gathered
         requires { slot < self.now.held.now.slots }
-        ensures { Component self.now.held.now.slots (links (readings_of (told self.now.held.now) (M.classes self.now.model.now self.now.locus) (M.fitting self.now.model.now self.now.locus))) slot (items result) }
+        ensures { Component self.now.held.now.slots (links (readings_at M.classes M.fitting self.now)) slot (items result) }
     {
         let mut found = Gathered::new();
         found.push(slot);

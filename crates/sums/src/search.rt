@@ -3,10 +3,9 @@ ghost use Rattle.std.specs.Prelude.{◌≡◌, ℕ, ◌<◌, List, ◌++◌, len
 ghost use Rattle.std.specs.List.{range_with_len};
 ghost use Rattle.figures.specs.Figure.{weights};
 ghost use Rattle.figures.specs.Lists.{every, In};
-ghost use Rattle.figures.specs.View.{readings_of};
 ghost use Rattle.figures.proofs.Searched.{searched};
 ghost use Rattle.sums.specs.Searching.{Searching, Inside, env, passes_at, fits_order};
-ghost use Rattle.sums.specs.Seen.{told};
+ghost use Rattle.sums.specs.Seen.{readings_at};
 
 use crate::priced::Priced;
 use crate::site::Site;
@@ -44,7 +43,7 @@ impl<M: Model> Priced<'_, M> {
     // that takes no heap, and passed by value, so that nothing has to be put back.
     pub(crate) fn search<V: Algebra>(&self, slots: &[usize], alleles: [Option<u8>; SLOTS]) -> V
         requires { (t : ℕ) → In t slots.now → t < 64 }
-        ensures { (done : List ℕ) → Searching self.now.site.now.held.now (M.fitting self.now.site.now.model.now self.now.site.now.locus) done slots.now alleles → Inside (done ++ slots.now) (readings_of (told self.now.site.now.held.now) (M.classes self.now.site.now.model.now self.now.site.now.locus) (M.fitting self.now.site.now.model.now self.now.site.now.locus)) → result ≡ searched V.operations (length self.now.costs.now) (weights V.operations self.now.costs.now) (fits_order (done ++ slots.now) (readings_of (told self.now.site.now.held.now) (M.classes self.now.site.now.model.now self.now.site.now.locus) (M.fitting self.now.site.now.model.now self.now.site.now.locus))) slots.now (env alleles) }
+        ensures { (done : List ℕ) → Searching self.now.site.now.held.now (M.fitting self.now.site.now.model.now self.now.site.now.locus) done slots.now alleles → Inside (done ++ slots.now) (readings_at M.classes M.fitting self.now.site.now) → result ≡ searched V.operations (length self.now.costs.now) (weights V.operations self.now.costs.now) (fits_order (done ++ slots.now) (readings_at M.classes M.fitting self.now.site.now)) slots.now (env alleles) }
     {
         let Some((&slot, rest)) = slots.split_first() else {
             return V::one();
