@@ -46,6 +46,7 @@ impl Forest {
         ensures answer { result ≡ pass_answer (laid self.old) }
         ensures after { MatchResult result (λ _. laid self.new ≡ laid self.old ++ None ∷ []) (λ _. self.new ≡ self.old) }
     {
+        // The test of `lay` again: a function for it, with its contract, would be longer than the two tests.
         if self.count >= PERSONS {
             return Err(LayFault::TooManyPersons);
         }
