@@ -1,5 +1,5 @@
 #!/bin/sh
-# Counts, in the source as a commit has it, the lines at which older forms of the language may stand, one pattern a point.
+# Counts, in the source as a commit has it, the lines at which older forms of the language may stand, by one pattern for each kind of place.
 # tools/count_forms.sh COMMIT [-l]     (-l lists the lines)
 commit=${1:?"a commit"}
 count() {
