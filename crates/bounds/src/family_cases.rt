@@ -124,6 +124,7 @@ pub(crate) fn entered(founders: usize, children: usize) -> Result<FamilyBuilder,
 
 fn answered(case: &Case) -> Result<usize, Refusal> {
     let mut builder = entered(case.founders, case.children)?;
+    // Which call is made is data of the case, since the cases are a constant table.
     let number = match case.person {
         Person::Founder => builder.founder()?,
         Person::Child { mother, father } => builder.child(mother, father)?,
