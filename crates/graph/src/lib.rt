@@ -1,9 +1,8 @@
 // The founder-allele graph of a locus: the links of all persons whose reading is not silent, laid in a forest.
 #![tactic(auto)]
 
-ghost use Rattle.std.specs.Prelude.{◌≡◌, true, [], ◌∷◌, ◌++◌, if◌then◌else◌, Some, None, Ok};
-ghost use Rattle.forest.specs.Entries.{in_range};
-ghost use Rattle.forest.specs.Laid.{laid, has_room};
+ghost use Rattle.std.specs.Prelude.{◌≡◌, [], ◌∷◌, ◌++◌, if◌then◌else◌, Some, None, MatchResult};
+ghost use Rattle.forest.specs.Laid.{laid, lay_answer, pass_answer};
 ghost use Rattle.figures.specs.Graph.{Parts, links};
 ghost use Rattle.figures.specs.Locus.{loud};
 ghost use Rattle.sums.specs.Seen.{told, readings_at};
@@ -13,15 +12,15 @@ use forest::{Forest, LayFault};
 use readings::model::Model;
 use sums::{Site, is_loud};
 
-// Lays one person more: with the link of its two slots where its reading says something, with none where it is silent.
+// Lays one person more: with the link of its two slots where its reading says something, with none where it is silent. Refused, the forest is as it was.
 fn lay_person<M: Model>(
     forest: &mut Forest,
     site: &Site<M>,
     person: usize,
     slots: (usize, usize),
 ) -> Result<(), LayFault>
-    ensures taken { has_room (laid forest.old) ≡ true → in_range slots ≡ true → result ≡ Ok tt }
-    ensures entry { has_room (laid forest.old) ≡ true → in_range slots ≡ true → laid forest.new ≡ laid forest.old ++ (if loud (M.classes site.now.model.now site.now.locus person) then Some slots else None) ∷ [] }
+    ensures answer { result ≡ (if loud (M.classes site.now.model.now site.now.locus person) then lay_answer (laid forest.old) slots else pass_answer (laid forest.old)) }
+    ensures after { MatchResult result (λ _. laid forest.new ≡ laid forest.old ++ (if loud (M.classes site.now.model.now site.now.locus person) then Some slots else None) ∷ []) (λ _. forest.new ≡ forest.old) }
 {
     if is_loud(site.model.class(site.locus, person)) {
         forest.lay(slots)

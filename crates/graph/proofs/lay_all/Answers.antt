@@ -4,18 +4,14 @@ use Rattle.std.specs.Result.{is_ok}
 use Rattle.std.proofs.lemmas.Bool.{false≢true}
 use Rattle.sums.specs.Seen.{told}
 use Rattle.graph.specs.Entries.{entry_of}
-use Rattle.graph.proofs.Laying.{room, inside, next}
+use Rattle.graph.proofs.Laying.{taken, next}
 use Rattle.graph.proofs.lay_all.Goals as goal
 
 pub prove-unreachable-requires : goal.prove-unreachable-requires
 prove-unreachable-requires g c =
-    let h = c.args.site.now.held.now in
-    let class = g.M.Model.classes c.args.site.now.model.now c.args.site.now.locus in
     let l = c.loop-person in
-    let is = c.pairs-slots-items.ensures in
-    let near = c.loop-person-test.true in
-    let taken = c.lay_person-laid.ensures.taken (room h class _ l.person l.forest is near l.invariant) (inside h class _ l.person l.forest is near l.invariant) in
-    absurd (false≢true (sym c.if-prove.true ∙ c.is_ok.ensures.value ∙ ap is_ok taken))
+    let ok = c.lay_person-laid.ensures.answer ∙ taken c.args.site.now.held.now _ _ l.person l.forest c.pairs-slots-items.ensures c.loop-person-test.true l.invariant in
+    absurd (false≢true (sym c.if-prove.true ∙ c.is_ok.ensures.value ∙ ap is_ok ok))
 
 pub loop-person-preserved : goal.loop-person-preserved
 loop-person-preserved g c =
@@ -23,8 +19,8 @@ loop-person-preserved g c =
     let class = g.M.Model.classes c.args.site.now.model.now c.args.site.now.locus in
     let l = c.loop-person in
     let is = c.pairs-slots-items.ensures in
-    let near = c.loop-person-test.true in
-    next h class _ l.person l.forest is near l.invariant (c.lay_person-laid.ensures.entry (room h class _ l.person l.forest is near l.invariant) (inside h class _ l.person l.forest is near l.invariant))
+    let ok = c.lay_person-laid.ensures.answer ∙ taken h class _ l.person l.forest is c.loop-person-test.true l.invariant in
+    next h class _ l.person l.forest is c.loop-person-test.true l.invariant _ c.lay_person-laid.new.forest ok c.lay_person-laid.ensures.after
 
 pub returns : goal.returns
 returns g c =

@@ -2,14 +2,14 @@ use Rattle.std.proofs.Common.{ℕ, List, length, sym, ap, ◌∙◌, ap₂, arit
 use Rattle.figures.specs.Figure.{figure, weights}
 use Rattle.figures.specs.Locus.{Locus}
 use Rattle.figures.proofs.Carried.{figures_carried}
-use Rattle.sums.specs.Seen.{seen, alleles_of}
+use Rattle.sums.specs.Seen.{locus_at, alleles_of}
 use Rattle.sums.specs.declared.site.Site.{Site}
 use Rattle.sums.proofs.Masked.{costs_small}
 use Rattle.sums.proofs.site.Site.two_figures.Goals as goal
 
 pub returns : goal.returns
 returns g c =
-    let locus : Site g.row.M.Denot → List ℕ → Locus = λ s cs. seen s.held.now (length cs) (g.M.Model.classes s.model.now s.locus) (g.M.Model.fitting s.model.now s.locus) in
+    let locus : Site g.row.M.Denot → List ℕ → Locus = λ s cs. locus_at g.M.Model.classes g.M.Model.fitting s (length cs) in
     let costs = alleles_of c.args.costs.now in
     let L = locus c.args.self.now costs in
     let o = g.V.Algebra.operations in
