@@ -3,7 +3,7 @@
 use Rattle.std.proofs.Common.{◌≡◌, ℕ, ◌+◌, ◌<◌, Bool, true, false, cond, List, [], ◌∷◌, ◌++◌, nat_lt, map, length, get_or, Some, None, Ok, Result, MatchResult, if◌then◌else◌, sym, refl, ap, ◌∙◌, subst, arith}
 use Rattle.std.specs.List.{range_with_len}
 use Rattle.std.proofs.lemmas.List.FromFn.{length-map-range_with_len, map-range_with_len_more}
-use Rattle.std.proofs.lemmas.Bool.{and_from, lt-ltb, cond-true, cond_both}
+use Rattle.std.proofs.lemmas.Bool.{and_from, lt-ltb, cond-true}
 use Rattle.forest.specs.Entries.{links_laid, in_range}
 use Rattle.forest.specs.Laid.{laid, has_room, lay_answer, pass_answer}
 use Rattle.forest.specs.declared.faults.LayFault.{LayFault}
@@ -48,9 +48,10 @@ module _ (h : Held) (class : ℕ → Class) (pairs : List (ℕ × ℕ)) (p : ℕ
       ap in_range (ap (λ xs. get_or xs p (0, 0)) is ∙ told_at h class (λ _ _ _. true) p within)
       ∙ and_from (nat_lt slots.0 64) (nat_lt slots.1 64) (lt-ltb slots.0 64 (omega (arith, b.0, h.within.2))) (lt-ltb slots.1 64 (omega (arith, b.1, h.within.2)))
 
-  pub taken : (if loud (class p) then lay_answer (laid before) (get_or pairs p (0, 0)) else pass_answer (laid before)) ≡ Ok tt
-  taken =
-      cond_both (loud (class p)) (lay_answer (laid before) (get_or pairs p (0, 0))) (pass_answer (laid before)) (λ r. r ≡ Ok tt) (λ _. cond-true (has_room (laid before)) _ _ room ∙ cond-true (in_range (get_or pairs p (0, 0))) _ _ inside) (λ _. cond-true (has_room (laid before)) _ _ room)
+  -- with a link or with none
+  pub taken : (b : Bool) → (if b then lay_answer (laid before) (get_or pairs p (0, 0)) else pass_answer (laid before)) ≡ Ok tt
+  taken true = cond-true (has_room (laid before)) _ _ room ∙ cond-true (in_range (get_or pairs p (0, 0))) _ _ inside
+  taken false = cond-true (has_room (laid before)) _ _ room
 
   pub next : (r : Result (Unit {0}) LayFault) (after : Forest) → r ≡ Ok tt → MatchResult r (λ _. laid after ≡ laid before ++ (if loud (class p) then Some (get_or pairs p (0, 0)) else None) ∷ []) (λ _. after ≡ before) → laid after ≡ map (entry_of (told h) class) (range_with_len 0 (p + 1))
   next r after ok m =
