@@ -1,7 +1,7 @@
 // Readings: the numbers that a locus has, one reading of a person at a locus, and the order in which a reading is refused.
 use crate::family_cases::entered;
 use crate::panel_cases::{plain, three};
-use crate::told::{print_number, print_refusal};
+use crate::told::print_refusal;
 use pedigree::Family;
 use refusal::Refusal;
 use std::io;
@@ -231,8 +231,10 @@ fn print_case(
 
 fn print_bytes(rt: &HostRuntime, kind: &str, table: &[u8], places: &[usize]) -> io::Result<()> {
     for place in places {
-        print!(rt; "{kind} byte {place}")?;
-        print_number(rt, "", table.get(*place).map(|byte| usize::from(*byte)))?;
+        match table.get(*place) {
+            Some(byte) => println!(rt; "{kind} byte {place}: {byte}")?,
+            None => println!(rt; "{kind} byte {place}: none")?,
+        }
     }
     Ok(())
 }
