@@ -1,5 +1,5 @@
 -- The order of the pairs and the triangular rule: the pair (a, b) with a ≤ b stands at the place b(b+1)/2 + a.
-use Rattle.std.proofs.Common.{◌≡◌, nat_lt, subst, ℕ, zero, suc, ◌+◌, ◌<◌, ◌≤◌, min, max, Some, None, sym, refl, ap, ap₂, ⊎_elim, le_refl, arith}
+use Rattle.std.proofs.Common.{◌≡◌, nat_lt, subst, ℕ, zero, suc, ◌+◌, ◌<◌, ◌≤◌, min, max, Some, sym, refl, ap, ap₂, ⊎_elim, le_refl, arith}
 use Rattle.std.proofs.lemmas.Bool.{ltb-true, ltb-false, cond_both, cases_order, cases_lt}
 use Rattle.std.proofs.lemmas.Bool.Decides.{nat_tests}
 use Rattle.genotype.specs.Codes.{pairs_below, code_of, next, listed, pair_of}
@@ -45,9 +45,6 @@ pair_found a b code h hb e =
     let found : listed code ≡ (a, b) = alone (listed code) a b h here in
     let low : code ≤ 135 = omega (arith, pairs_below_rises b 15 hb) in
     grind (arith, nat_tests)
-
-pub no_pair : (code : ℕ) → 135 < code → None ≡ pair_of code
-no_pair code h = grind (arith, nat_tests)
 
 pub code_found : (a b code : ℕ) → a ≤ b → b ≤ 15 → pairs_below b + a ≡ code → code_of a b ≡ code
 code_found a b code h hb e =

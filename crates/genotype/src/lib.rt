@@ -7,6 +7,9 @@ ghost use Rattle.genotype.specs.Codes.{code_of, pair_of};
 // The largest allele that has a code.
 const LAST_ALLELE: u8 = 15;
 
+// The largest code of a pair.
+const LAST_CODE: u8 = 135;
+
 // What stands for the code of an allele that has none.
 const NO_CODE: u8 = 255;
 
@@ -63,12 +66,15 @@ pub fn pair(code: u8) -> Option<(u8, u8)>
     ensures value { result ≡ pair_of code }
     ensures back { MatchOption result (135 < code) (λ p. (code ≤ 135) × (p.0 ≤ p.1) × (p.1 ≤ 15) × (code_of p.0 p.1 ≡ code)) }
 {
-    let mut smaller = code;
-    for larger in 0..=LAST_ALLELE {
-        if smaller <= larger {
-            return Some((smaller, larger));
-        }
-        smaller -= larger + 1;
+    if code > LAST_CODE {
+        return None;
     }
-    None
+    let mut larger = 0;
+    let mut smaller = code;
+    // A `for` over the larger alleles is unrolled into a long chain of tests, which every question for a class would pay for.
+    while smaller > larger {
+        smaller -= larger + 1;
+        larger += 1;
+    }
+    Some((smaller, larger))
 }
