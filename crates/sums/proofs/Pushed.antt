@@ -1,18 +1,37 @@
 -- What a list of slots has after slots are pushed.
 -- Assumes nothing.
-use Rattle.std.proofs.Common.{◌≡◌, ℕ, ◌+◌, ◌<◌, true, false, ◌||◌, eqb, ◌⊎◌, List, [], ◌∷◌, ◌++◌, length, get_or, take, sym, refl, ap, ◌∙◌, ap₂, inl, inr}
-use Rattle.std.proofs.Math.Bool.{or-false, or_assoc}
-use Rattle.std.specs.List.{list_any}
-use Rattle.std.proofs.lemmas.List.{take_more}
-use Rattle.std.proofs.lemmas.Bool.{cases_eq, cases_Bool, eq-eqb, ne_eqb}
+use Rattle.std.proofs.Common.{◌≡◌, ℕ, ◌+◌, ◌<◌, ◌≤◌, Bool, true, false, ◌||◌, eqb, ◌⊎◌, List, [], ◌∷◌, ◌++◌, length, get_or, set, replicate, take, sym, ap, ◌∙◌, inl, inr, arith}
+use Rattle.std.proofs.Math.Bool.{or-false, or-true, or_assoc}
+use Rattle.std.proofs.lemmas.List.{take_more, get_or-set_same, get_or-set_other, get_or-replicate, get_or_past, length-replicate}
+use Rattle.std.proofs.lemmas.Bool.{cases_eq, cases_lt, cases_Bool, eq-eqb, ne_eqb}
 use Rattle.figures.specs.Graph.{has}
-use Rattle.sums.specs.Ordered.{lawful, pushed}
+use Rattle.sums.specs.Ordered.{Marked, lawful, pushed}
 use Rattle.sums.proofs.Lawful.{lawful_below, pushed_new, pushed_old}
 use Rattle.sums.proofs.Reaching.{at_place}
 
 has_push : (ss : List ℕ) (s t : ℕ) → has (ss ++ s ∷ []) t ≡ (has ss t || eqb t s)
 has_push [] s t = or-false (eqb t s)
 has_push (x ∷ ss) s t = ap (λ b. eqb t x || b) (has_push ss s t) ∙ sym (or_assoc (eqb t x) (has ss t) (eqb t s))
+
+-- a slot pushed is marked
+pub marked_push : (marks : List Bool) (ss : List ℕ) (s : ℕ) → length marks ≡ 64 → s < 64 → Marked marks ss → Marked (set marks s true) (ss ++ s ∷ [])
+marked_push marks ss s e small m t = go (cases_eq t s)
+  where
+    go : (t ≡ s) ⊎ (t ≡ s → ⊥) → get_or (set marks s true) t false ≡ has (ss ++ s ∷ []) t
+    go (inl q) =
+        ap (λ u. get_or (set marks s true) u false) q ∙ get_or-set_same marks s true false (omega arith)
+        ∙ sym (has_push ss s t ∙ ap (λ b. has ss t || b) (eq-eqb t s q) ∙ or-true (has ss t))
+    go (inr ne) =
+        get_or-set_other marks s t true false ne ∙ m t
+        ∙ sym (has_push ss s t ∙ ap (λ b. has ss t || b) (ne_eqb t s ne) ∙ or-false (has ss t))
+
+-- where nothing is gathered, nothing is marked
+pub unmarked : (n s : ℕ) → get_or (replicate n false) s false ≡ false
+unmarked n s = go (cases_lt s n)
+  where
+    go : (s < n) ⊎ (n ≤ s) → get_or (replicate n false) s false ≡ false
+    go (inl h) = get_or-replicate n s false false h
+    go (inr h) = get_or_past (replicate n false) s false (omega (arith, length-replicate n false))
 
 -- one slot pushed
 has_pushed : (ss : List ℕ) (s t : ℕ) → s < 64 → has (pushed ss s) t ≡ (has ss t || eqb t s)
@@ -31,12 +50,3 @@ pub has_pushed_more : (old ss xs : List ℕ) (i t : ℕ) → lawful xs ≡ true 
 has_pushed_more old ss xs i t law l e =
     has_pushed ss (get_or xs i 0) t (lawful_below xs law (get_or xs i 0) (at_place 0 xs i l)) ∙ ap (λ b. b || eqb t (get_or xs i 0)) e ∙ or_assoc (has old t) (has (take i xs) t) (eqb t (get_or xs i 0))
     ∙ sym (ap (λ ys. has old t || has ys t) (take_more xs i 0 l) ∙ ap (λ b. has old t || b) (has_push (take i xs) (get_or xs i 0) t))
-
--- whether a slot stands in a list, by the library's test
-pub has_any : (ss : List ℕ) (t : ℕ) → list_any (λ s. eqb s t) ss ≡ has ss t
-has_any [] t = refl
-has_any (s ∷ ss) t = ap₂ ◌||◌ (turned (cases_eq s t)) (has_any ss t)
-  where
-    turned : (s ≡ t) ⊎ (s ≡ t → ⊥) → eqb s t ≡ eqb t s
-    turned (inl q) = eq-eqb s t q ∙ sym (eq-eqb t s (sym q))
-    turned (inr ne) = ne_eqb s t ne ∙ sym (ne_eqb t s (λ q. ne (sym q)))

@@ -1,6 +1,6 @@
--- Slots in the order in which they were gathered: below 64, none twice.
+-- Slots in the order in which they were gathered: below 64, none twice, each marked.
 -- Assumes nothing.
-use Rattle.std.specs.Prelude.{ℕ, Bool, true, cond, not, ◌&&◌, ltb, List, [], ◌∷◌, ◌++◌, nat_lt}
+use Rattle.std.specs.Prelude.{◌≡◌, ℕ, Bool, true, false, cond, not, ◌&&◌, ltb, List, [], ◌∷◌, ◌++◌, nat_lt, slice_index_or}
 use Rattle.figures.specs.Lists.{every}
 use Rattle.figures.specs.Graph.{has}
 
@@ -8,6 +8,10 @@ use Rattle.figures.specs.Graph.{has}
 abbrev pub distinct : List ℕ → Bool
 distinct [] = true
 distinct (s ∷ ss) = not (has ss s) && distinct ss
+
+-- every slot that stands in the list is marked, and no other
+abbrev pub Marked : List Bool → List ℕ → Type 0
+Marked marks ss = (s : ℕ) → slice_index_or marks s false ≡ has ss s
 
 -- slots below 64, none twice
 abbrev pub lawful : List ℕ → Bool

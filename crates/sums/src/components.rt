@@ -88,7 +88,8 @@ impl<M: Model> Priced<'_, M> {
             if gathered.contains(slot) {
                 continue;
             }
-            let found = self.site.gather(slot);
+            let mut found = Gathered::new();
+            self.site.gather(slot, &mut found);
             if self.is_too_wide(&found) {
                 return true;
             }
@@ -109,7 +110,8 @@ impl<M: Model> Priced<'_, M> {
             if gathered.contains(slot) {
                 continue;
             }
-            let found = self.site.gather(slot);
+            let mut found = Gathered::new();
+            self.site.gather(slot, &mut found);
             let sum: V = self.search(found.slots(), [None; SLOTS]);
             total = total.product(sum);
             gathered.push_all(&found);

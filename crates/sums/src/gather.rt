@@ -20,6 +20,7 @@ impl Gathered {
     {
         Gathered {
             slots: ArrayVec::new(),
+            marks: [false; SLOTS],
         }
     }
 
@@ -35,7 +36,7 @@ impl Gathered {
     pub(crate) fn contains(&self, slot: usize) -> bool
         ensures { result ≡ has (items self.now) slot }
     {
-        self.slots().contains(&slot)
+        self.marks.get(slot).copied().unwrap_or(false)
     }
 
     // One slot more, where it is a slot and not there yet.
@@ -44,6 +45,7 @@ impl Gathered {
     {
         if slot < SLOTS && !self.contains(slot) {
             self.slots.push(slot);
+            self.marks[slot] = true;
         }
     }
 
@@ -81,27 +83,27 @@ impl<M: Model> Site<'_, M> {
     fn reach(&self, slot: usize, found: &mut Gathered)
         ensures { items found.new ≡ reached (links (readings_at M.classes M.fitting self.now)) slot (items found.old) }
     {
-        for (person, ends) in self.held.pairs().iter().enumerate() {
-            if is_loud(self.model.class(self.locus, person)) {
+        let Site { held, model, locus } = *self;
+        for (person, ends) in held.pairs().iter().enumerate() {
+            if is_loud(model.class(locus, person)) {
                 found.follow(*ends, slot);
             }
         }
     }
 
-    // The component of a slot.
-    pub(crate) fn gather(&self, slot: usize) -> Gathered
-        requires { slot < self.now.held.now.slots }
-        ensures { Component self.now.held.now.slots (links (readings_at M.classes M.fitting self.now)) slot (items result) }
+    // The component of a slot, gathered where nothing is yet: a component is as large as its memory, and is not copied.
+    pub(crate) fn gather(&self, slot: usize, found: &mut Gathered)
+        requires below { slot < self.now.held.now.slots }
+        requires empty { items found.old ≡ [] }
+        ensures { Component self.now.held.now.slots (links (readings_at M.classes M.fitting self.now)) slot (items found.new) }
     {
-        let mut found = Gathered::new();
         found.push(slot);
         // The list grows while it is gone through, so the loop is over its places.
         for next in 0..SLOTS {
             let Some(&from) = found.slots().get(next) else {
                 break;
             };
-            self.reach(from, &mut found);
+            self.reach(from, found);
         }
-        found
     }
 }

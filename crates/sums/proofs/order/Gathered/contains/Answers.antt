@@ -1,9 +1,7 @@
-use Rattle.std.proofs.Common.{eqb, ap, ◌∙◌}
-use Rattle.std.specs.List.{list_any}
-use Rattle.sums.specs.Gathering.{items}
-use Rattle.sums.proofs.Pushed.{has_any}
+use Rattle.std.proofs.Common.{◌≡◌, false, slice_index_or, ◌∙◌, rules}
 use Rattle.sums.proofs.order.Gathered.contains.Goals as goal
 
 pub returns : goal.returns
 returns c =
-    c.contains.ensures.value ∙ ap (list_any (λ s. eqb s c.args.slot)) c.slots.ensures.value ∙ has_any (items c.args.self.now) c.args.slot
+    let looked : c.unwrap_or.result ≡ slice_index_or c.args.self.now.marks c.args.slot false = search rules in
+    looked ∙ c.args.self.now.marked c.args.slot
