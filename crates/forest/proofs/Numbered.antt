@@ -1,8 +1,11 @@
 -- How many slots below a number are their own names, counted along their parents.
 -- Assumes nothing.
-use Rattle.std.proofs.Common.{◌≡◌, ℕ, zero, suc, ◌+◌, ◌-◌, min, Bool, true, false, cond, eqb, ◌⊎◌, List, [], ◌∷◌, length, get_or, take, sym, refl, ap, ◌∙◌, inl, inr, zero-add, subst, arith}
+use Rattle.std.proofs.Common.{◌≡◌, ℕ, zero, suc, ◌+◌, ◌-◌, ◌<◌, ◌≤◌, min, Bool, true, false, cond, not, eqb, ◌⊎◌, List, [], ◌∷◌, length, get_or, take, sym, refl, ap, ◌∙◌, inl, inr, zero-add, subst, arith}
 use Rattle.std.specs.List.{range_with_len, enumerate_from, filter}
 use Rattle.std.proofs.Math.Seq.{take-nil}
+use Rattle.std.proofs.lemmas.List.{length-take, take_all}
+use Rattle.std.proofs.lemmas.List.FromFn.{length-enumerate_from, get_or-enumerate_from}
+use Rattle.std.proofs.lemmas.List.Filters.{length-filter_both, length-filter_more}
 use Rattle.std.proofs.lemmas.Bool.{cases_eq, eq-eqb, ne_eqb}
 use Rattle.figures.specs.Lists.{every, kept}
 use Rattle.figures.proofs.Names.{name}
@@ -40,3 +43,30 @@ names_counted ls range n =
     go : (s : ℕ) → (get_or (parents ls) s s ≡ s) ⊎ (get_or (parents ls) s s ≡ s → ⊥) → eqb (name ls s) s ≡ own (s, get_or (parents ls) s s)
     go s (inl e) = eq-eqb _ _ (root_named ls s range e) ∙ sym (eq-eqb _ _ (sym e))
     go s (inr e) = ne_eqb _ _ (λ h. e (named_root ls s range h)) ∙ sym (ne_eqb _ _ (λ h. e (sym h)))
+
+-- how many of the first i slots are their own parents
+abbrev pub owns : List ℕ → ℕ → ℕ
+owns ps i = length (filter own (take i (enumerate_from 0 ps)))
+
+module _ (ps : List ℕ) (i : ℕ) where
+  pub owns_few : owns ps i ≤ i
+  owns_few =
+      omega (arith, length-filter_both own (λ p. not (own p)) (λ p. refl) (take i (enumerate_from 0 ps)), length-take i (enumerate_from 0 ps))
+
+  pub owns_all : length ps ≤ i → owns ps i ≡ length (filter own (enumerate_from 0 ps))
+  owns_all h = ap (λ xs. length (filter own xs)) (take_all i (enumerate_from 0 ps) (omega (arith, length-enumerate_from 0 ps)))
+
+  module _ (within : i < length ps) where
+    more : (b : Bool) → eqb (0 + i) (get_or ps i 0) ≡ b → owns ps (i + 1) ≡ owns ps i + cond b 1 0
+    more b e =
+        length-filter_more own (enumerate_from 0 ps) i (0, 0) (omega (arith, length-enumerate_from 0 ps))
+        ∙ ap (λ p. owns ps i + cond (own p) 1 0) (get_or-enumerate_from 0 ps i (0, 0) within)
+        ∙ ap (λ b. owns ps i + cond b 1 0) e
+
+    -- one slot more, a root
+    pub owns_root : get_or ps i 0 ≡ i → owns ps (i + 1) ≡ owns ps i + 1
+    owns_root e = more true (eq-eqb (0 + i) (get_or ps i 0) (omega (arith, e)))
+
+    -- one slot more, no root
+    pub owns_other : (get_or ps i 0 ≡ i → ⊥) → owns ps (i + 1) ≡ owns ps i
+    owns_other ne = omega (arith, more false (ne_eqb (0 + i) (get_or ps i 0) (λ e. ne (omega (arith, e)))))

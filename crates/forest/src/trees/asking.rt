@@ -55,11 +55,12 @@ impl Forest {
         ensures { Parts slots (links_of self.now) result }
     {
         let near = slots.min(SLOTS);
-        let roots = self.parent[..near]
-            .iter()
-            .enumerate()
-            .filter(|(slot, parent)| slot == *parent)
-            .count();
-        slots - near + roots
+        let mut parts = slots - near;
+        for (slot, parent) in self.parent[..near].iter().enumerate() {
+            if *parent == slot {
+                parts += 1;
+            }
+        }
+        parts
     }
 }
