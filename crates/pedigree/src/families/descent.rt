@@ -68,7 +68,11 @@ impl Family {
     pub fn slots(&self, bits: &[Meiosis; PERSONS], person: usize) -> Option<(usize, usize)>
         ensures { result ≡ slice_get (slots_of (persons_of self.now) bits.now) person }
     {
-        let slots = self.all_slots(bits);
-        slots[..self.count()].get(person).copied()
+        // Of a person that the family lacks nothing is worked out.
+        if person >= self.count() {
+            return None;
+        }
+        let all = self.all_slots(bits);
+        Some(all[person])
     }
 }
