@@ -84,11 +84,11 @@ impl<M: Model> Priced<'_, M> {
         ensures { IsTrue result ↔ Wide (locus_at M.classes M.fitting self.now.site.now (length self.now.costs.now)) }
     {
         let mut gathered = Gathered::new();
+        let mut found = Gathered::new();
         for slot in 0..self.site.held.slots {
             if gathered.contains(slot) {
                 continue;
             }
-            let mut found = Gathered::new();
             self.site.gather(slot, &mut found);
             if self.is_too_wide(&found) {
                 return true;
@@ -104,13 +104,13 @@ impl<M: Model> Priced<'_, M> {
     {
         let mut total = V::one();
         let mut gathered = Gathered::new();
+        let mut found = Gathered::new();
         // The walk is that of is_wide, which ends at the first wide component and sums nothing. A walker of its own would promise at each step how the slots gathered
         // so far fall into components, which the two loops keep as they go.
         for slot in 0..self.site.held.slots {
             if gathered.contains(slot) {
                 continue;
             }
-            let mut found = Gathered::new();
             self.site.gather(slot, &mut found);
             let sum: V = self.search(found.slots(), [None; SLOTS]);
             total = total.product(sum);

@@ -83,27 +83,27 @@ impl<M: Model> Site<'_, M> {
     fn reach(&self, slot: usize, found: &mut Gathered)
         ensures { items found.new ≡ reached (links (readings_at M.classes M.fitting self.now)) slot (items found.old) }
     {
-        let Site { held, model, locus } = *self;
-        for (person, ends) in held.pairs().iter().enumerate() {
-            if is_loud(model.class(locus, person)) {
+        for (person, ends) in self.held.pairs().iter().enumerate() {
+            if is_loud(self.model.class(self.locus, person)) {
                 found.follow(*ends, slot);
             }
         }
     }
 
-    // The component of a slot, gathered where nothing is yet: a component is as large as its memory, and is not copied.
-    pub(crate) fn gather(&self, slot: usize, found: &mut Gathered)
-        requires below { slot < self.now.held.now.slots }
-        requires empty { items found.old ≡ [] }
-        ensures { Component self.now.held.now.slots (links (readings_at M.classes M.fitting self.now)) slot (items found.new) }
+    // The component of a slot, put where the caller has room for one: it is gathered here and copied there once, where an answer would be copied twice.
+    pub(crate) fn gather(&self, slot: usize, component: &mut Gathered)
+        requires { slot < self.now.held.now.slots }
+        ensures { Component self.now.held.now.slots (links (readings_at M.classes M.fitting self.now)) slot (items component.new) }
     {
+        let mut found = Gathered::new();
         found.push(slot);
         // The list grows while it is gone through, so the loop is over its places.
         for next in 0..SLOTS {
             let Some(&from) = found.slots().get(next) else {
                 break;
             };
-            self.reach(from, found);
+            self.reach(from, &mut found);
         }
+        *component = found;
     }
 }

@@ -11,12 +11,12 @@ loop-slot-preserved-then-contains g c =
 pub returns-then-is_too_wide : goal.returns-then-is_too_wide
 returns-then-is_too_wide g c =
     let site = c.args.self.now.site.now in
-    (λ _. wide_some site.held.now (g.M.Model.classes site.model.now site.locus) (g.M.Model.fitting site.model.now site.locus) (length c.args.self.now.costs.now) c.loop-slot.slot (items c.gather.new.found) c.loop-slot-test.true c.gather.ensures (sym c.if-is_too_wide.ensures), λ _. search rules)
+    (λ _. wide_some site.held.now (g.M.Model.classes site.model.now site.locus) (g.M.Model.fitting site.model.now site.locus) (length c.args.self.now.costs.now) c.loop-slot.slot (items c.gather.new.component) c.loop-slot-test.true c.gather.ensures (sym c.if-is_too_wide.ensures), λ _. search rules)
 
 pub loop-slot-preserved : goal.loop-slot-preserved
 loop-slot-preserved g c =
     let inv = c.loop-slot.invariant in
-    (items c.gather.new.found ∷ inv.0, parted_new inv.1 c.loop-slot-test.true c.gather.ensures (sym c.if-contains.ensures) c.push_all.ensures, narrow_more _ (items c.gather.new.found) inv.0 (sym c.if-is_too_wide.ensures) inv.2)
+    (items c.gather.new.component ∷ inv.0, parted_new inv.1 c.loop-slot-test.true c.gather.ensures (sym c.if-contains.ensures) c.push_all.ensures, narrow_more _ (items c.gather.new.component) inv.0 (sym c.if-is_too_wide.ensures) inv.2)
 
 pub returns : goal.returns
 returns g c =

@@ -19,7 +19,7 @@ loop-slot-preserved-then-contains g c =
 
 pub search-sum-requires : goal.search-sum-requires
 search-sum-requires g c =
-    let found = c.gather.new.found in
+    let found = c.gather.new.component in
     λ t i. lawful_below (items found) found.apart t (subst (In t) c.slots.ensures.value i)
 
 pub loop-slot-preserved : goal.loop-slot-preserved
@@ -35,7 +35,7 @@ loop-slot-preserved g c =
     let L = seen h (length costs) class fits in
     let sound = seen_sound h (length costs) site.locus (g.M.Model.classes site.model.now) (g.M.Model.fitting site.model.now) (g.M.Model.rules site.model.now) in
     let inv = c.loop-slot.invariant in
-    let gathered = c.gather.new.found in
+    let gathered = c.gather.new.component in
     let found = items gathered in
     let comp = c.gather.ensures in
     let slot = c.loop-slot.slot in

@@ -13,7 +13,7 @@ pub loop-next-init : goal.loop-next-init
 loop-next-init g c =
     let s = c.args.self.now in
     let within = links_within s.held.now (g.M.Model.classes s.model.now s.locus) (g.M.Model.fitting s.model.now s.locus) in
-    gathers_first within s.held.now.within.2 (c.push.ensures ∙ ap (λ ss. pushed ss c.args.slot) c.requires.empty) c.requires.below
+    gathers_first within s.held.now.within.2 (c.push.ensures ∙ ap (λ ss. pushed ss c.args.slot) c.new-found.ensures) c.requires
 
 pub loop-next-preserved : goal.loop-next-preserved
 loop-next-preserved g c =
