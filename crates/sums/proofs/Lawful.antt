@@ -1,9 +1,10 @@
 -- Slots below 64, none twice: there are at most 64, and one more may be pushed.
 -- Assumes nothing.
-use Rattle.std.proofs.Common.{◌≡◌, ℕ, ◌+◌, ◌<◌, ◌≤◌, true, false, not, ◌&&◌, ltb, ◌⊎◌, List, [], ◌∷◌, ◌++◌, length, sym, refl, ◌∙◌, subst, inl, inr, arith}
+use Rattle.std.proofs.Common.{◌≡◌, ℕ, ◌+◌, ◌<◌, ◌≤◌, true, false, not, ◌&&◌, ltb, ◌⊎◌, List, [], ◌∷◌, ◌++◌, length, get_or, replicate, sym, refl, ◌∙◌, subst, inl, inr, ⊎_elim, arith}
 use Rattle.std.specs.List.{range_with_len}
+use Rattle.std.proofs.lemmas.List.{get_or-replicate, get_or_past, length-replicate}
 use Rattle.std.proofs.lemmas.List.FromFn.{length-range_with_len}
-use Rattle.std.proofs.lemmas.Bool.{and_parts, and_from, and_right, not_from_true, cond-true, cond-false, cases_Bool, not-true, not_from_false, lt-ltb, ltb-true, both_ways}
+use Rattle.std.proofs.lemmas.Bool.{and_parts, and_from, and_right, not_from_true, cond-true, cond-false, cases_Bool, cases_lt, not-true, not_from_false, lt-ltb, ltb-true, both_ways}
 use Rattle.figures.specs.Lists.{every, In, Once}
 use Rattle.figures.specs.Graph.{has}
 use Rattle.figures.proofs.Members.{in_append, in_counting, once_append, every_from, every_at, has_in, in_has, no_more}
@@ -75,3 +76,7 @@ pushed_new ss s small new =
 
 pub pushed_old : (ss : List ℕ) (s : ℕ) → has ss s ≡ true → ss ≡ pushed ss s
 pushed_old ss s old = sym (cond-false (ltb s 64 && not (has ss s)) (ss ++ s ∷ []) ss (and_right (ltb s 64) (not (has ss s)) (not_from_true (has ss s) old)))
+
+-- memory that holds one thing throughout has it at every place, and past its end by default
+pub blank : {X : Type 0} (n i : ℕ) (x : X) → get_or (replicate n x) i x ≡ x
+blank n i x = ⊎_elim (λ h. get_or-replicate n i x x h) (λ h. get_or_past (replicate n x) i x (omega (arith, length-replicate n x))) (cases_lt i n)

@@ -1,9 +1,8 @@
 -- Gathering the components one after the other finds all of them.
 -- Assumes nothing.
-use Rattle.std.proofs.Common.{◌≡◌, ℕ, ◌+◌, ◌^◌, ◌<◌, ◌≤◌, Bool, true, false, ◌&&◌, ◌||◌, ltb, ◌⊎◌, List, [], ◌∷◌, ◌++◌, length, get_or, replicate, is_some, None, Option, sym, refl, ap, ◌∙◌, subst, ap₂, inl, inr, arith}
+use Rattle.std.proofs.Common.{◌≡◌, ℕ, ◌+◌, ◌^◌, ◌<◌, ◌≤◌, Bool, true, false, ◌&&◌, ◌||◌, ltb, ◌⊎◌, List, [], ◌∷◌, ◌++◌, length, replicate, is_some, None, Option, sym, refl, ap, ◌∙◌, subst, ap₂, inl, inr, arith}
 use Rattle.std.specs.List.{range_with_len, flat_map}
-use Rattle.std.proofs.lemmas.List.{get_or-replicate, get_or_past, length-replicate}
-use Rattle.std.proofs.lemmas.Bool.{cases_eq, cases_lt, both_ways, false≢true, and_parts, and_from, or_cases, or_left, or_right, lt-ltb, ltb-true}
+use Rattle.std.proofs.lemmas.Bool.{cases_eq, both_ways, false≢true, and_parts, and_from, or_cases, or_left, or_right, lt-ltb, ltb-true}
 use Rattle.algebra.specs.Semiring.{Ops, Laws}
 use Rattle.readings.specs.declared.class.Class.{Class}
 use Rattle.readings.specs.declared.class.Class.TheVariants.{Silent, Named, Several}
@@ -16,6 +15,7 @@ use Rattle.sums.specs.Searching.{Searching, pair_of, is_set, agrees}
 use Rattle.sums.specs.Seen.{told, seen}
 use Rattle.sums.specs.Widths.{is_several, several_in, too_wide}
 use Rattle.sums.specs.declared.slots.Held.{Held}
+use Rattle.sums.proofs.Lawful.{blank}
 use Rattle.sums.proofs.Tests.{some_from}
 use Rattle.sums.proofs.Views.{told_at, reading_in, in_reading}
 
@@ -162,19 +162,9 @@ pub nothing_set : (h : Held) (fits : ℕ → ℕ → ℕ → Bool) (slots : List
 nothing_set h fits slots once = record {
   once = once;
   set = λ t i. elim i [ ];
-  only = λ t e. absurd (both_ways (is_set (replicate 64 None) t) (ap is_some (blank t)) e);
-  fitting = λ p l. ap₂ (agrees (fits p)) (blank (pair_of h p).0) (blank (pair_of h p).1);
+  only = λ t e. absurd (both_ways (is_set (replicate 64 None) t) (ap is_some (blank 64 t nothing)) e);
+  fitting = λ p l. ap₂ (agrees (fits p)) (blank 64 (pair_of h p).0 nothing) (blank 64 (pair_of h p).1 nothing);
 }
   where
     nothing : Option ℕ
     nothing = None
-
-    none_set : List (Option ℕ)
-    none_set = replicate 64 None
-
-    blank : (t : ℕ) → get_or none_set t None ≡ None
-    blank t = go (cases_lt t 64)
-      where
-        go : (t < 64) ⊎ (64 ≤ t) → get_or none_set t None ≡ None
-        go (inl l) = get_or-replicate 64 t None None l
-        go (inr l) = get_or_past none_set t None (omega (arith, length-replicate 64 nothing))

@@ -1,9 +1,9 @@
 -- What a list of slots has after slots are pushed.
 -- Assumes nothing.
-use Rattle.std.proofs.Common.{◌≡◌, ℕ, ◌+◌, ◌<◌, ◌≤◌, Bool, true, false, ◌||◌, eqb, ◌⊎◌, List, [], ◌∷◌, ◌++◌, length, get_or, set, replicate, take, sym, ap, ◌∙◌, inl, inr, arith}
+use Rattle.std.proofs.Common.{◌≡◌, ℕ, ◌+◌, ◌<◌, Bool, true, false, ◌||◌, eqb, ◌⊎◌, List, [], ◌∷◌, ◌++◌, length, get_or, set, take, sym, ap, ◌∙◌, inl, inr, arith}
 use Rattle.std.proofs.Math.Bool.{or-false, or-true, or_assoc}
-use Rattle.std.proofs.lemmas.List.{take_more, get_or-set_same, get_or-set_other, get_or-replicate, get_or_past, length-replicate}
-use Rattle.std.proofs.lemmas.Bool.{cases_eq, cases_lt, cases_Bool, eq-eqb, ne_eqb}
+use Rattle.std.proofs.lemmas.List.{take_more, get_or-set_same, get_or-set_other}
+use Rattle.std.proofs.lemmas.Bool.{cases_eq, cases_Bool, eq-eqb, ne_eqb}
 use Rattle.figures.specs.Graph.{has}
 use Rattle.sums.specs.Ordered.{Marked, lawful, pushed}
 use Rattle.sums.proofs.Lawful.{lawful_below, pushed_new, pushed_old}
@@ -24,14 +24,6 @@ marked_push marks ss s e small m t = go (cases_eq t s)
     go (inr ne) =
         get_or-set_other marks s t true false ne ∙ m t
         ∙ sym (has_push ss s t ∙ ap (λ b. has ss t || b) (ne_eqb t s ne) ∙ or-false (has ss t))
-
--- where nothing is gathered, nothing is marked
-pub unmarked : (n s : ℕ) → get_or (replicate n false) s false ≡ false
-unmarked n s = go (cases_lt s n)
-  where
-    go : (s < n) ⊎ (n ≤ s) → get_or (replicate n false) s false ≡ false
-    go (inl h) = get_or-replicate n s false false h
-    go (inr h) = get_or_past (replicate n false) s false (omega (arith, length-replicate n false))
 
 -- one slot pushed
 has_pushed : (ss : List ℕ) (s t : ℕ) → s < 64 → has (pushed ss s) t ≡ (has ss t || eqb t s)
